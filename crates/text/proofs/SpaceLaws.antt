@@ -1,0 +1,131 @@
+-- Laws of `specs/Space.antt`. Assumes nothing.
+use mathlib.Core.Path.{_≡_, refl, sym, ap, _∙_}
+use mathlib.Core.Bool.{Bool, true, false}
+use mathlib.Core.Logic.{⊎-elim}
+use Prim.Native.Nat.{ℕ, zero, suc, _+_, _-_, _≤_, _<_}
+use native.Mathlib.Nat.{add-zero, zero-add, suc-ne-zero, not-suc-le-zero, le-of-suc-le-suc, eq-or-lt-of-le}
+use native.Mathlib.Omega.{arith}
+use mathlib.Core.List.{List, [], _∷_, _++_, reverse, reverse-cons}
+use lib.ListN.{length, drop, getD, length-drop, length-reverse, List·getD-append, List·getD-eq-default}
+use lib.Seq.{getD-drop, getD-at}
+use lib.Dec.{lit≤, eqb}
+use borrow.Author.Tests.{eq-eqb, ne-eqb}
+use Rattle.text.specs.Pick.{pick, both}
+use Rattle.text.specs.Space.{space1, space2, space3, space80, spaceLen, spaceBack, width, trimStart, trimEnd}
+use Rattle.text.specs.Find.{other}
+use Rattle.text.specs.Walk.{ends, lead}
+use Rattle.text.proofs.Walks.{here, on, out, lead-le}
+use Rattle.text.proofs.Utf8Laws.{pick-le, both-no}
+
+module _ (s : List ℕ) (i n x y z : ℕ) (p q r : Bool) (ex : x ≡ getD s i 0) (ey : y ≡ getD s (i + 1) 0) (ez : z ≡ getD s (i + 2) 0) (ep : p ≡ space1 x) (e : n ≡ width p q r) where
+  pub front : q ≡ space2 x y → r ≡ space3 x y z → n ≡ spaceLen (drop i s)
+  unfolding spaceLen
+  front eq er = simp (getD-drop, add-zero, ← ex, ← ey, ← ez, ← ep, ← eq, ← er) e
+
+  pub back : q ≡ space2 y x → r ≡ space3 z y x → n ≡ spaceBack (drop i s)
+  unfolding spaceBack
+  back eq er = simp (getD-drop, add-zero, ← ex, ← ey, ← ez, ← ep, ← eq, ← er) e
+
+ruleset small = (pick-le, lit≤, tt)
+
+three-le : (p q r : Bool) → width p q r ≤ 3
+unfolding width
+three-le p q r = search small
+
+two-le : (p q : Bool) → width p q false ≤ 2
+unfolding width
+two-le p q = search small
+
+one-le : (p : Bool) → width p false false ≤ 1
+unfolding width
+one-le p = search small
+
+-- a byte that is 0 is in no white space
+none2 : (a : ℕ) → space2 a 0 ≡ false
+unfolding space2
+none2 a = simp both-no
+
+none3 : (a b : ℕ) → space3 a b 0 ≡ false
+unfolding space3 space80
+none3 a b = simp both-no
+
+front-within : (xs : List ℕ) → 0 < length xs → spaceLen xs ≤ length xs
+unfolding spaceLen
+front-within [] h = absurd (not-suc-le-zero h)
+front-within (a ∷ []) h = rw (none2, none3) (one-le (space1 a))
+front-within (a ∷ b ∷ []) h = rw none3 (two-le (space1 a) (space2 a b))
+front-within (a ∷ b ∷ c ∷ r) h = omega (arith, three-le (space1 a) (space2 a b) (space3 a b c))
+
+back-within : (xs : List ℕ) → 0 < length xs → spaceBack xs ≤ length xs
+unfolding spaceBack space2 space3
+back-within [] h = absurd (not-suc-le-zero h)
+back-within (a ∷ []) h = one-le (space1 a)
+back-within (a ∷ b ∷ []) h = two-le (space1 a) (space2 b a)
+back-within (a ∷ b ∷ c ∷ r) h = omega (arith, three-le (space1 a) (space2 b a) (space3 c b a))
+
+pub front-fits : (s : List ℕ) (i n : ℕ) → i < length s → n ≡ spaceLen (drop i s) → i + n ≤ length s
+front-fits s i n h e = rw e (omega (arith, length-drop i s, front-within (drop i s) (simp length-drop (omega arith))))
+
+pub back-fits : (s : List ℕ) (i n : ℕ) → i < length s → n ≡ spaceBack (drop i (reverse s)) → i + n ≤ length s
+back-fits s i n h e =
+    rw e
+    (omega
+    (arith, length-drop i (reverse s), length-reverse s, back-within (drop i (reverse s)) (simp (length-drop, length-reverse) (omega arith))))
+
+pub getD-reverse : (s : List ℕ) (i : ℕ) → i < length s → getD s (length s - 1 - i) 0 ≡ getD (reverse s) i 0
+getD-reverse [] i h = absurd (not-suc-le-zero h)
+getD-reverse (x ∷ xs) i h =
+    ⊎-elim
+    (λ e.
+    let z : length (x ∷ xs) - 1 - i ≡ 0 = omega arith in
+    rw (z, reverse-cons x xs) (sym (getD-at (reverse xs) x [] 0 i (length-reverse xs ∙ sym e))))
+    (λ lt.
+    let z : length (x ∷ xs) - 1 - i ≡ suc (length xs - 1 - i) = omega arith in
+    rw (z, reverse-cons x xs)
+    (getD-reverse xs i lt ∙ sym (List·getD-append (reverse xs) (x ∷ []) 0 i (rw length-reverse lt))))
+    (eq-or-lt-of-le (le-of-suc-le-suc h))
+
+pub getD-before : (s : List ℕ) (i : ℕ) → length s ≤ i → 0 ≡ getD (reverse s) i 0
+getD-before s i h = sym (List·getD-eq-default (reverse s) 0 (rw length-reverse h))
+
+-- a search for b: it is here, or it goes on
+pub is-here : (s : List ℕ) (i b : ℕ) → getD s i 0 ≡ b → 0 ≡ other b (drop i s)
+unfolding other
+is-here s i b e = simp (getD-drop, add-zero, eq-eqb (getD s i 0) b e)
+
+pub goes-on : (s : List ℕ) (i b : ℕ) → (getD s i 0 ≡ b → ⊥) → 1 ≡ other b (drop i s)
+unfolding other
+goes-on s i b e = simp (getD-drop, add-zero, ne-eqb (getD s i 0) b e)
+
+pub goes-by : (s : List ℕ) (i b a : ℕ) → (getD s i 0 ≡ b → ⊥) → i < length s → ends (other b) s i ≡ a → ends (other b) s (i + 1) ≡ a
+goes-by s i b a n h q = on (other b) s i 1 a (goes-on s i b n) (λ e. suc-ne-zero 0 e) (omega arith) q
+
+-- the walk back from the end, as a loop carries it
+unfoldable pub From-end : List ℕ → ℕ → Type 0
+From-end s i = ends spaceBack (reverse s) i ≡ lead spaceBack (reverse s)
+
+pub end-start : (s : List ℕ) → From-end s 0
+unfolding From-end ends
+end-start s = simp zero-add
+
+pub end-on : (s : List ℕ) (i w : ℕ) → w ≡ spaceBack (drop i (reverse s)) → (w ≡ 0 → ⊥) → i + w ≤ length s → From-end s i → From-end s (i + w)
+unfolding From-end
+end-on s i w e n b q = on spaceBack (reverse s) i w _ e n (rw length-reverse b) q
+
+pub end-here : (s : List ℕ) (i w : ℕ) → w ≡ spaceBack (drop i (reverse s)) → w ≡ 0 → From-end s i → length s - i ≡ trimEnd s
+unfolding From-end trimEnd
+end-here s i w e z q = ap (λ (k : ℕ). length s - k) (here spaceBack (reverse s) i w _ e z q)
+
+pub end-out : (s : List ℕ) (i : ℕ) → length s ≤ i → From-end s i → 0 ≡ trimEnd s
+unfolding From-end trimEnd
+end-out s i b q =
+    let e : i ≡ lead spaceBack (reverse s) = out spaceBack (reverse s) i _ (rw length-reverse b) q in
+    rw (← e) (omega arith)
+
+pub start-le : (xs : List ℕ) → trimStart xs ≤ length xs
+unfolding trimStart
+start-le xs = lead-le spaceLen front-within xs
+
+pub end-le : (xs : List ℕ) → trimEnd xs ≤ length xs
+unfolding trimEnd
+end-le xs = omega arith

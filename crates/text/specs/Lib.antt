@@ -1,0 +1,6 @@
+pub mod Pick
+pub mod Walk
+pub mod Run
+pub mod Find
+pub mod Utf8
+pub mod Space
