@@ -1,0 +1,5 @@
+pub mod ValueLaws
+pub mod Near
+pub mod Bits
+pub mod Back
+pub mod Written
