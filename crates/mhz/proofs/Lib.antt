@@ -1,0 +1,5 @@
+pub mod DigitLaws
+pub mod PartLaws
+pub mod WindowLaws
+pub mod HeldLaws
+pub mod TextLaws

@@ -1,0 +1,5 @@
+pub mod Digits
+pub mod Number
+pub mod Reading
+pub mod Steps
+pub mod Examples
