@@ -3,3 +3,4 @@ pub mod Near
 pub mod Bits
 pub mod Back
 pub mod Written
+pub mod Determined

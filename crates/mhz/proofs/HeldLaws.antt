@@ -9,7 +9,8 @@ use lib.ListN.{length, drop}
 use lib.Dec.{eqb, ltb}
 use borrow.Author.Tests.{le-leb, lt-leb, eq-eqb, ne-eqb, eqb-true, eqb-false, ltb-true, ltb-false}
 use Rattle.text.specs.Pick.{pick, either}
-use Rattle.mhz.specs.Digits.{digitsOf, onFrom, numberOf}
+use Rattle.decimal.specs.Decimal.{number}
+use Rattle.mhz.specs.Digits.{digitsOf, numberOf}
 use Rattle.mhz.specs.Number.{Exponent, malformed, power, allDigits, unsigned, negative, exponentOf, wholePart, fractionPart, afterDecimal, withExponent, decimalOf}
 use Rattle.mhz.specs.Reading.{decimalHertz, numberHertz}
 use Rattle.mhz.specs.Steps.{grown, held, powerHeld, exponentHeld}
@@ -31,7 +32,7 @@ above-or m n = go (ltb m n) refl
     go true e = inl (ltb-true m n e)
     go false e = inr (ltb-false m n e)
 
-on-grows : (n : ℕ) (ds : List ℕ) → n ≤ onFrom n ds
+on-grows : (n : ℕ) (ds : List ℕ) → n ≤ number n ds
 on-grows n [] = omega arith
 on-grows n (d ∷ ds) = let i = on-grows (n * 10 + (d - 0x30)) ds in omega arith
 
@@ -41,12 +42,12 @@ unfolding grown
 full most n [] h = refl
 full most n (d ∷ ds) h = rw (lt-leb n most h) (full most n ds h)
 
-pub held-alike : (most n : ℕ) (ds : List ℕ) → Alike most (held most n ds) (onFrom n ds)
+pub held-alike : (most n : ℕ) (ds : List ℕ) → Alike most (held most n ds) (number n ds)
 unfolding grown
 held-alike most n [] = record { same = λ h. refl; more = λ h. h }
 held-alike most n (d ∷ ds) = elim (above-or most n) [
   | inl h ↦
-      let g : n ≤ onFrom (n * 10 + (d - 0x30)) ds = le-trans' n (n * 10 + (d - 0x30)) (onFrom (n * 10 + (d - 0x30)) ds) (omega arith) (on-grows (n * 10 + (d - 0x30)) ds) in
+      let g : n ≤ number (n * 10 + (d - 0x30)) ds = le-trans' n (n * 10 + (d - 0x30)) (number (n * 10 + (d - 0x30)) ds) (omega arith) (on-grows (n * 10 + (d - 0x30)) ds) in
       record { same = λ k. absurd (omega arith); more = λ k. rw (lt-leb n most h) (rw (full most n ds h) h) }
   | inr h ↦ rw (le-leb n most h) (held-alike most (n * 10 + (d - 0x30)) ds)
 ]
@@ -92,7 +93,7 @@ says (b ∷ bs) = go (either (eqb b 0x65) (eqb b 0x45)) (allDigits (unsigned bs)
   where
     go : (x t : Bool)
         → Says (pick x (pick t (Ten (negative bs) (held 65535 0 (digitsOf (unsigned bs)))) Malformed) Malformed)
-        (pick x (pick t (power (negative bs) (onFrom 0 (digitsOf (unsigned bs)))) malformed) malformed)
+        (pick x (pick t (power (negative bs) (number 0 (digitsOf (unsigned bs)))) malformed) malformed)
     go true true = (refl, held-alike 65535 0 (digitsOf (unsigned bs)))
     go true false = tt
     go false t = tt

@@ -3,3 +3,6 @@ pub mod PartLaws
 pub mod WindowLaws
 pub mod HeldLaws
 pub mod TextLaws
+pub mod WriteLaws
+pub mod Formatted
+pub mod Determined

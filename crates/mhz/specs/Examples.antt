@@ -9,10 +9,13 @@ use Rattle.letters.specs.Capitals.{raised}
 use Rattle.letters.specs.Same.{sameRaised}
 use Rattle.hertz.specs.Value.{parsed, signed}
 use Rattle.hertz.specs.Whole.{toHz, belowZero, rounded}
+use Rattle.decimal.specs.Digits.{digits, decimal as ten-digits}
 use Rattle.mhz.specs.Digits.{numberOf}
 use Rattle.mhz.specs.Number.{none, not-a-number, infinity, decimal, negative, unsigned, pointed, wholePart, fractionPart, afterDecimal, allDigits, decimalOf, isInfinity, isNan, unsignedNumber, numberIn}
 use Rattle.mhz.specs.Reading.{up, down, near, inWindow, hertzOf, decimalHertz, numberHertz, readHertz}
+use Rattle.mhz.specs.Writing.{sixDecimals, mhzText, answerTo}
 use Rattle.mhz.specs.declared.Hz.the-variants.{Absent, Is, Outside}
+use Rattle.mhz.specs.declared.Wrote.the-variants.{End, TooHigh, Short}
 
 -- ---- the grammar
 -- "+.5e-3": the digits 5, one of them after the point, times 10 ^ -3
@@ -71,3 +74,14 @@ infinities = (refl, refl)
 outside : numberHertz (decimal false 9007199254740993 0 false 0) ≡ Outside
 unfolding decimalHertz inWindow
 outside = refl
+
+-- ---- writing
+-- 14074000 Hz is "14.074000", 5 Hz is "0.000005"
+written : (mhzText 14074000 ≡ 49 ∷ 52 ∷ 46 ∷ 48 ∷ 55 ∷ 52 ∷ 48 ∷ 48 ∷ 48 ∷ []) × (mhzText 5 ≡ 48 ∷ 46 ∷ 48 ∷ 48 ∷ 48 ∷ 48 ∷ 48 ∷ 53 ∷ [])
+unfolding sixDecimals ten-digits digits
+written = (refl, refl)
+
+-- refused with 14 at the bound, with 13 where a byte is missing
+refused : (answerTo 8589934592000000 0 [] ≡ TooHigh) × (answerTo 5 1 (0 ∷ 0 ∷ 0 ∷ 0 ∷ 0 ∷ 0 ∷ 0 ∷ 0 ∷ []) ≡ Short) × (answerTo 5 0 (0 ∷ 0 ∷ 0 ∷ 0 ∷ 0 ∷ 0 ∷ 0 ∷ 0 ∷ []) ≡ End 8)
+unfolding answerTo sixDecimals ten-digits digits
+refused = (refl, refl, refl)

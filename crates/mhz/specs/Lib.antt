@@ -2,4 +2,5 @@ pub mod Digits
 pub mod Number
 pub mod Reading
 pub mod Steps
+pub mod Writing
 pub mod Examples
