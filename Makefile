@@ -15,7 +15,7 @@ bench:
 
 # the recorded answers of Rust's std and the original
 record:
-	@host/host.sh record vectors
+	@host/host.sh record
 
 # what importing FILE would do
 preview:

@@ -24,8 +24,9 @@ count() {
     passed=$((passed + $1)) failed=$((failed + bad))
     [ "$bad" = 0 ] || failures="$failures $name"
 }
-# told FORM: the two numbers of the last line of that form, where \1 is what passed and \2 what failed; or 0 0
-told() { sed -n "s/^$1\$/\1 \2/p" "$log/out" | tail -n 1 | grep . || echo 0 0; }
+# told FORM: the two numbers of the last line of that form, where \1 is what passed and \2 what failed; without one, a
+# failure
+told() { sed -n "s/^$1\$/\1 \2/p" "$log/out" | tail -n 1 | grep . || echo 0 1; }
 
 part format rt fmt --check
 count $((status == 0)) 0

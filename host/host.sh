@@ -2,7 +2,7 @@
 # Builds the test host (the library, Rust's std and the original rigflow in one process) and runs it:
 #   host/host.sh compare [full]   the library's answers against std's and the original's, group by group
 #   host/host.sh bench            instructions of both between marks, one table; on x86-64 times as well
-#   host/host.sh record DIR       the answers of std and the original as vectors, into DIR
+#   host/host.sh record [DIR]     the answers of std and the original as vectors, into DIR (else where they are kept)
 # RIGFLOW_SRC: the original's sources. OXBREATHE_CACHE: where fetched packages stay. OXBREATHE_LIB: a folder with
 # a liboxbreathe.a to use instead of the one that rt builds. SEED and ONLY: see compare/main.rs.
 #
@@ -12,9 +12,9 @@
 set -eu
 root=$(cd "$(dirname "$0")/.." && pwd -P)
 host=$root/host
-cache=${OXBREATHE_CACHE:-${HOME:+$HOME/.cache/oxbreathe}}
-cache=${cache:-$root/.cache/oxbreathe}
+cache=${OXBREATHE_CACHE:-${HOME:-$root}/.cache/oxbreathe}
 out=$root/.cache/host # this checkout's own build; what checkouts can share is in $cache
+vectors=$root/vectors
 arch=$(uname -m)
 target=x86_64-unknown-linux-gnu
 
@@ -36,8 +36,10 @@ apt_ready() {
          -o Dir::Cache=$cache/apt/cache -o APT::Architectures::=$(dpkg --print-architecture) -o APT::Architectures::=amd64
          -o APT::Sandbox::User= -o Acquire::Languages=none -o Acquire::Retries=3 -o Debug::NoLocking=1"
     # shellcheck disable=SC2086
-    apt-get $apt update >"$cache/apt/log" 2>&1 || die "cannot fetch $1: $(tail -n 1 "$cache/apt/log")"
+    apt-get $apt update >"$cache/apt/log" 2>&1 || unfetched "$1"
 }
+# unfetched PACKAGE..: apt's first complaint is the cause, the later ones follow from it
+unfetched() { die "cannot fetch $*: $(grep -m 1 '^[WE]:' "$cache/apt/log")"; }
 # unpack DIR PACKAGE..: the packages' files, below DIR
 unpack() {
     into=$1
@@ -46,7 +48,7 @@ unpack() {
     rm -rf "$into" "$cache/debs"
     mkdir -p "$into" "$cache/debs"
     # shellcheck disable=SC2086
-    (cd "$cache/debs" && apt-get $apt download "$@") >>"$cache/apt/log" 2>&1 || die "cannot fetch $*: $(tail -n 1 "$cache/apt/log")"
+    (cd "$cache/debs" && apt-get $apt download "$@") >>"$cache/apt/log" 2>&1 || unfetched "$@"
     for deb in "$cache"/debs/*.deb; do
         dpkg-deb --fsys-tarfile "$deb" | tar -x -C "$into" --exclude=./usr/share/doc --exclude=./usr/share/man --exclude='*/rustdoc'
     done
@@ -218,16 +220,15 @@ export RUST_BACKTRACE=0
 case ${1:-} in
 compare)
     case ${2:-} in
-    '') compare sample "$root/vectors" ;;
-    full) compare full "$root/vectors" ;;
+    '') compare sample "$vectors" ;;
+    full) compare full "$vectors" ;;
     *) die "compare takes nothing, or full" ;;
     esac
     ;;
 bench) bench ;;
 record)
-    [ -n "${2:-}" ] || die "record takes a folder"
-    mkdir -p "$2"
-    compare record "$2"
+    mkdir -p "${2:-$vectors}"
+    compare record "${2:-$vectors}"
     ;;
 *)
     sed -n '3,5s/^#   //p' "$0"

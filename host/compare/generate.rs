@@ -105,6 +105,10 @@ pub const WHITE: [char; 25] = [
     '\u{2029}', '\u{202F}', '\u{205F}', '\u{3000}',
 ];
 
+/// Characters that a careless test takes for white space: its neighbours, and those that other lists have.
+pub const BESIDE: &str = "\0\u{8}\u{E}\u{1F}!\u{7F}\u{84}\u{86}\u{9F}\u{A1}\u{167F}\u{1681}\u{180E}\u{1FFF}\u{200B}\
+    \u{2027}\u{202A}\u{202E}\u{2030}\u{205E}\u{2060}\u{2FFF}\u{3001}\u{FEFF}";
+
 /// Cuts, flips, inserts or deletes, once or a few times.
 pub fn damage(random: &mut Random, text: &mut Vec<u8>) {
     for _ in 0..=random.below(3) {

@@ -88,7 +88,8 @@ impl Group {
         let size = input.size();
         if self.smallest.as_ref().is_none_or(|d| size < d.size) {
             let show = |answer: A| clip(format!("{answer:?}"));
-            self.smallest = Some(Difference { size, input: clip(input.show()), ours: show(ours), theirs: show(theirs) });
+            self.smallest =
+                Some(Difference { size, input: clip(input.show()), ours: show(ours), theirs: show(theirs) });
         }
     }
 

@@ -32,6 +32,7 @@ fn main() -> ExitCode {
     }
 }
 
+/// Every area's groups. A new area is a module with a `run`, called here.
 fn compare(mut run: Run, folder: &Path) -> ExitCode {
     text::run(&mut run);
     vectors::run(&mut run, folder);

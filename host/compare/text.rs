@@ -1,6 +1,6 @@
 //! The crate `text` against Rust's std, each field of each answer of the C functions; and the Rust wrapper over them.
 
-use crate::generate::{BORDERS, Placed, WHITE, bytes, damage, every, length, utf8};
+use crate::generate::{BESIDE, BORDERS, Placed, WHITE, bytes, damage, every, length, utf8};
 use crate::harness::{Group, Run};
 use crate::rust;
 use oxbreathe::sys::{self, Checked, Found, Numbered, Ordered, Told, Trimmed, Written};
@@ -126,8 +126,7 @@ const SPECKS: [&[u8]; 9] = [
 
 /// White space, characters beside it and others, as parts of texts.
 fn characters() -> Vec<String> {
-    let beside = "\u{8}\u{E}\u{1F}!\u{84}\u{86}\u{9F}\u{A1}\u{167F}\u{1681}\u{180E}\u{1FFF}\u{200B}\u{2027}\u{202A}\u{205E}\u{2060}\u{2FFF}\u{3001}\u{FEFF}é€😀";
-    WHITE.iter().copied().chain(beside.chars()).map(String::from).collect()
+    WHITE.iter().copied().chain(BESIDE.chars()).chain("é€😀".chars()).map(String::from).collect()
 }
 
 /// A function of one text: every short text, every text of few characters, a speck at each place of a block, and
@@ -267,21 +266,21 @@ fn find(g: &mut Group) {
     }
 }
 
-/// Into a buffer of each length from nothing to more than enough: what is written, and that nothing else is.
+/// Into a buffer of each length from nothing to more than enough: what is written, and that nothing else is, be it
+/// past the buffer's end.
 fn digits(g: &mut Group) {
     let same = |g: &mut Group, number: u64| {
         let text = number.to_string();
         for room in [0, text.len() - 1, text.len(), text.len() + 1, 24] {
-            let mut ours = vec![0xEE; room];
-            let mut theirs = ours.clone();
-            let written = sys::text_digits(number, &mut ours);
+            let (mut ours, mut theirs) = ([0xEE; 48], [0xEE; 48]);
+            let written = sys::text_digits(number, &mut ours[..room]);
             let expected = if room < text.len() {
                 Written { refusal: 13, length: 0 }
             } else {
                 theirs[..text.len()].copy_from_slice(text.as_bytes());
                 Written { refusal: 0, length: text.len() }
             };
-            g.same((number, room as u64), (written, ours), (expected, theirs));
+            g.same((number, room as u64), (written, ours.to_vec()), (expected, theirs.to_vec()));
         }
     };
     let powers = (0..64).map(|k| 1u64 << k).chain((0..20).map(|k| 10u64.pow(k))).chain([0, u64::MAX]);

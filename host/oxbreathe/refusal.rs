@@ -76,7 +76,10 @@ impl Refusal {
     pub(crate) fn told(number: u32, place: usize) -> Result<(), Refusal> {
         match Cause::numbered(number) {
             Some(cause) => Err(Refusal { cause, place }),
-            None => Ok(()),
+            None => {
+                debug_assert_eq!(number, 0, "the library has no such refusal");
+                Ok(())
+            }
         }
     }
 }
