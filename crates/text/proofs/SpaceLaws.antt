@@ -3,15 +3,15 @@ use mathlib.Core.Path.{_≡_, refl, sym, ap, _∙_}
 use mathlib.Core.Bool.{Bool, true, false}
 use mathlib.Core.Logic.{⊎-elim}
 use Prim.Native.Nat.{ℕ, zero, suc, _+_, _-_, _≤_, _<_}
-use native.Mathlib.Nat.{add-zero, zero-add, suc-ne-zero, not-suc-le-zero, le-of-suc-le-suc, eq-or-lt-of-le}
+use native.Mathlib.Nat.{le-refl, add-zero, zero-add, suc-ne-zero, not-suc-le-zero, le-of-suc-le-suc, eq-or-lt-of-le}
 use native.Mathlib.Omega.{arith}
 use mathlib.Core.List.{List, [], _∷_, _++_, reverse, reverse-cons}
-use lib.ListN.{length, drop, getD, length-drop, length-reverse, List·getD-append, List·getD-eq-default}
-use lib.Seq.{getD-drop, getD-at}
+use lib.ListN.{length, take, drop, getD, length-drop, length-reverse, List·getD-append, List·getD-eq-default}
+use lib.Seq.{getD-drop, getD-at, take-all}
 use lib.Dec.{lit≤, eqb}
 use borrow.Author.Tests.{eq-eqb, ne-eqb}
 use Rattle.text.specs.Pick.{pick, both}
-use Rattle.text.specs.Space.{space1, space2, space3, space80, spaceLen, spaceBack, width, trimStart, trimEnd}
+use Rattle.text.specs.Space.{space1, space2, space3, space80, spaceLen, spaceBack, width, trimStart, trimEnd, trimmed, blank}
 use Rattle.text.specs.Find.{other}
 use Rattle.text.specs.Walk.{ends, lead}
 use Rattle.text.proofs.Walks.{here, on, out, lead-le}
@@ -129,3 +129,16 @@ start-le xs = lead-le spaceLen front-within xs
 pub end-le : (xs : List ℕ) → trimEnd xs ≤ length xs
 unfolding trimEnd
 end-le xs = omega arith
+
+-- a part up to the end, as a slice from a on has it
+pub rest : (s : List ℕ) (a : ℕ) → take (length s - a) (drop a s) ≡ drop a s
+rest s a = take-all (length s - a) (drop a s) (simp length-drop (le-refl (length s - a)))
+
+pub trim-part : (s : List ℕ) (a n : ℕ) → a ≡ trimStart s → n ≡ trimEnd (take (length s - a) (drop a s))
+    → take n (take (length s - a) (drop a s)) ≡ trimmed s
+unfolding trimmed
+trim-part s a n e f = simp (f, rest, e)
+
+pub blank-is : (s : List ℕ) (a : ℕ) → a ≡ trimStart s → eqb a (length s) ≡ blank s
+unfolding blank
+blank-is s a e = rw e refl

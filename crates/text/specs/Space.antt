@@ -2,7 +2,7 @@
 use Prim.Native.Nat.{ℕ, _-_}
 use mathlib.Core.Bool.{Bool}
 use mathlib.Core.List.{List, reverse}
-use lib.ListN.{length, getD}
+use lib.ListN.{length, getD, take, drop}
 use lib.Dec.{leb, eqb}
 use Rattle.text.specs.Pick.{pick, both, either, within}
 use Rattle.text.specs.Walk.{lead}
@@ -44,3 +44,11 @@ trimStart xs = lead spaceLen xs
 
 unfoldable pub trimEnd : List ℕ → ℕ
 trimEnd xs = length xs - lead spaceBack (reverse xs)
+
+-- the text without the white space at both ends
+unfoldable pub trimmed : List ℕ → List ℕ
+trimmed xs = take (trimEnd (drop (trimStart xs) xs)) (drop (trimStart xs) xs)
+
+-- nothing but white space
+unfoldable pub blank : List ℕ → Bool
+blank xs = eqb (trimStart xs) (length xs)

@@ -2,8 +2,8 @@
 ghost use mathlib.Core.Path.{_≡_};
 ghost use mathlib.Core.List.{reverse};
 ghost use Prim.Native.Nat.{ℕ, _+_, _≤_, _<_};
-ghost use lib.ListN.{length, getD, drop};
-ghost use Rattle.text.specs.Space.{space1, space2, space80, space3, spaceLen, spaceBack, width, trimStart, trimEnd};
+ghost use lib.ListN.{length, getD, take, drop};
+ghost use Rattle.text.specs.Space.{space1, space2, space80, space3, spaceLen, spaceBack, width, trimStart, trimEnd, trimmed, blank};
 use super::all;
 use super::any;
 use super::byte;
@@ -113,4 +113,21 @@ pub fn trim_end(s: &[u8]) -> usize
         i += w;
     }
     0
+}
+
+// s without the white space at both ends.
+pub fn trim(s: &[u8]) -> &[u8]
+    ensures { λ r. ⌜ now r ≡ trimmed (now (s .entry)) ⌝ }
+{
+    let a = trim_start(s);
+    let rest = &s[a..];
+    let n = trim_end(rest);
+    &rest[..n]
+}
+
+// s is empty or white space throughout.
+pub fn is_blank(s: &[u8]) -> bool
+    ensures { λ r. ⌜ r ≡ blank (now (s .entry)) ⌝ }
+{
+    trim_start(s) == s.len()
 }

@@ -1,0 +1,3 @@
+pub mod CapitalLaws
+pub mod SameLaws
+pub mod OrderLaws

@@ -1,0 +1,4 @@
+pub mod Capitals
+pub mod Same
+pub mod Order
+pub mod Examples
