@@ -159,17 +159,23 @@ original() {
         --extern serde="$deps/libserde.so" --extern chrono="$deps/libchrono.rlib" -L "$deps" "$@"
     with_original="--cfg original --extern original=$to/liboriginal.rlib -L $deps"
 }
+# the static library, built anew where a file or a folder of the crates is newer
+staticlib() {
+    made=$archive/liboxbreathe.a
+    if [ -f "$made" ] && [ -z "$(find "$root/crates" "$root/crates.txt" -newer "$made" | head -n 1)" ]; then
+        return 0
+    fi
+    (cd "$root" && rt staticlib oxbreathe) >"$out/staticlib.log" 2>&1 || {
+        cat "$out/staticlib.log"
+        die "rt staticlib oxbreathe failed"
+    }
+}
 # build NAME OPTION..: the program NAME; the options are for the original
 build() {
     program=$1
     shift
     archive=${OXBREATHE_LIB:-$root/target/staticlib}
-    if [ -z "${OXBREATHE_LIB:-}" ]; then
-        (cd "$root" && rt staticlib oxbreathe) >"$out/staticlib.log" 2>&1 || {
-            cat "$out/staticlib.log"
-            die "rt staticlib oxbreathe failed"
-        }
-    fi
+    [ -n "${OXBREATHE_LIB:-}" ] || staticlib
     [ -f "$archive/liboxbreathe.a" ] || die "no $archive/liboxbreathe.a"
     # one checkout at a time fetches into the cache
     exec 9>"$cache/lock"
