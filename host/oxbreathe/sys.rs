@@ -65,6 +65,16 @@ pub struct Written {
     pub length: usize,
 }
 
+/// The hertz that a text of megahertz says, or none.
+#[repr(C)]
+#[derive(Clone, Copy, Debug, Default, PartialEq, Eq)]
+pub struct Frequency {
+    pub refusal: u32,
+    pub place: usize,
+    pub present: bool,
+    pub hz: u64,
+}
+
 mod c {
     use super::*;
 
@@ -80,6 +90,8 @@ mod c {
         pub fn ox_text_unsigned(text: *const u8, length: usize) -> Numbered;
         pub fn ox_text_signed(text: *const u8, length: usize) -> Numbered;
         pub fn ox_text_digits(number: u64, out: *mut u8, length: usize) -> Written;
+        pub fn ox_mhz_to_hz(text: *const u8, length: usize) -> Frequency;
+        pub fn ox_hz_to_mhz(hz: u64, out: *mut u8, length: usize) -> Written;
     }
 }
 
@@ -114,4 +126,10 @@ pub fn text_signed(text: &[u8]) -> Numbered {
 }
 pub fn text_digits(number: u64, out: &mut [u8]) -> Written {
     unsafe { c::ox_text_digits(number, out.as_mut_ptr(), out.len()) }
+}
+pub fn mhz_to_hz(text: &[u8]) -> Frequency {
+    unsafe { c::ox_mhz_to_hz(text.as_ptr(), text.len()) }
+}
+pub fn hz_to_mhz(hz: u64, out: &mut [u8]) -> Written {
+    unsafe { c::ox_hz_to_mhz(hz, out.as_mut_ptr(), out.len()) }
 }
