@@ -5,4 +5,5 @@ pub mod HeldLaws
 pub mod TextLaws
 pub mod WriteLaws
 pub mod Formatted
+pub mod ReadBack
 pub mod Determined

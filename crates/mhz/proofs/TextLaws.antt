@@ -89,7 +89,7 @@ empty : (s : Bool) → unsignedNumber s [] ≡ decimalOf s []
 unfolding unsignedNumber isInfinity isNan sameRaised
 empty s = refl
 
-below-words : (s : Bool) (xs : List ℕ) → getD xs 0 0 ≤ 0x39 → unsignedNumber s xs ≡ decimalOf s xs
+pub below-words : (s : Bool) (xs : List ℕ) → getD xs 0 0 ≤ 0x39 → unsignedNumber s xs ≡ decimalOf s xs
 unfolding unsignedNumber isInfinity isNan
 below-words s [] h = empty s
 below-words s (b ∷ bs) h =

@@ -19,7 +19,7 @@ use Rattle.mhz.specs.Writing.{sixDecimals, mhzText, answerTo, Written}
 use Rattle.mhz.specs.declared.Wrote.the-variants.{End, TooHigh, Short}
 
 -- ---- digits from the last on
-length-last : (k n : ℕ) → length (lastDigits k n) ≡ k
+pub length-last : (k n : ℕ) → length (lastDigits k n) ≡ k
 length-last zero n = refl
 length-last (suc k) n = length-append (lastDigits k (n / 10)) ((0x30 + n % 10) ∷ []) ∙ ap (λ (z : ℕ). z + 1) (length-last k (n / 10)) ∙ omega arith
 

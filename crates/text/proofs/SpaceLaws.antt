@@ -2,15 +2,15 @@
 use mathlib.Core.Path.{_≡_, refl, sym, ap, _∙_}
 use mathlib.Core.Bool.{Bool, true, false, true≢false}
 use mathlib.Core.Logic.{⊎-elim}
-use Prim.Native.Nat.{ℕ, zero, suc, _+_, _-_, _≤_, _<_}
+use Prim.Native.Nat.{ℕ, suc, _+_, _-_, _≤_, _<_}
 use native.Mathlib.Nat.{le-refl, add-zero, zero-add, suc-ne-zero, not-suc-le-zero, le-of-suc-le-suc, eq-or-lt-of-le}
 use native.Mathlib.Omega.{arith}
-use mathlib.Core.List.{List, [], _∷_, _++_, reverse, reverse-cons}
+use mathlib.Core.List.{List, [], _∷_, reverse, reverse-cons}
 use lib.ListN.{length, take, drop, getD, length-drop, length-reverse, List·getD-append, List·getD-eq-default}
 use lib.Seq.{getD-drop, getD-at, take-all}
 use lib.Dec.{lit≤, eqb, leb}
 use borrow.Author.Tests.{eq-eqb, ne-eqb, lt-leb, leb-true}
-use Rattle.text.specs.Pick.{pick, both, within}
+use Rattle.text.specs.Pick.{both, within}
 use Rattle.text.specs.Space.{space1, space2, space3, space80, spaceLen, spaceBack, width, trimStart, trimEnd, trimmed, blank}
 use Rattle.text.specs.Find.{other}
 use Rattle.text.specs.Walk.{ends, lead}
