@@ -1,5 +1,5 @@
 -- A block of ASCII is whole characters; and what the loops over blocks ask. Assumes nothing.
-use mathlib.Core.Path.{_≡_, refl, sym, _∙_, subst}
+use mathlib.Core.Path.{_≡_, refl, sym, ap, _∙_, subst}
 use mathlib.Core.List.{List}
 use Prim.Native.Nat.{ℕ, zero, suc, _+_, _-_, _≤_, _<_}
 use native.Mathlib.Nat.{add-zero, zero-add, suc-ne-zero, le-trans, eq-or-lt-of-le, le-of-suc-le-suc}
@@ -11,7 +11,7 @@ use mathlib.Core.Logic.{⊎-elim}
 use Rattle.text.specs.Walk.{ends}
 use Rattle.text.specs.Utf8.{charLen, validUpTo, utf8}
 use Rattle.text.specs.Blocks.{Passed, UpTo}
-use Rattle.text.proofs.Walks.{here, on}
+use Rattle.text.proofs.Walks.{here, on, out}
 use Rattle.text.proofs.Utf8Laws.{ascii}
 
 -- n bytes of ASCII from i on: the walk passes them

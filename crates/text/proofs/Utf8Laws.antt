@@ -1,7 +1,7 @@
 -- Laws of `specs/Utf8.antt`. Assumes nothing.
-use mathlib.Core.Path.{_≡_, refl}
+use mathlib.Core.Path.{_≡_, refl, sym, subst}
 use mathlib.Core.Bool.{Bool, true, false}
-use Prim.Native.Nat.{ℕ, _+_, _≤_, _<_}
+use Prim.Native.Nat.{ℕ, zero, suc, _+_, _≤_, _<_, zero-le, suc-le-suc}
 use native.Mathlib.Nat.{add-zero}
 use native.Mathlib.Omega.{arith}
 use mathlib.Core.List.{List, [], _∷_}
@@ -10,7 +10,7 @@ use lib.Seq.{getD-drop}
 use lib.Dec.{T, leb, ltb, ltb→lt, lit≤}
 use borrow.Author.Tests.{le-leb, lt-leb}
 use Rattle.text.specs.Pick.{pick, both, within}
-use Rattle.text.specs.Utf8.{longChar, charLen, second3, second4}
+use Rattle.text.specs.Utf8.{longChar, charLen, cont, second3, second4}
 
 -- the character at i, by its bytes
 module _ (s : List ℕ) (i : ℕ) where
