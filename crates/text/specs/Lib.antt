@@ -5,3 +5,4 @@ pub mod Find
 pub mod Utf8
 pub mod Blocks
 pub mod Space
+pub mod Examples
