@@ -5,7 +5,7 @@ use mathlib.Core.List.{List}
 use Prim.Native.Nat.{ℕ}
 use Rattle.refusals.specs.Refusals.{numberOf, placeOf, ofText}
 use Rattle.refusals.specs.declared.Refusal.{Refusal}
-use Rattle.refusals.specs.declared.Refusal.the-variants.{ShortOutput, HighFrequency, OutsideWindow}
+use Rattle.refusals.specs.declared.Refusal.the-variants.{ShortOutput, FrequencyTooHigh, InexactFrequency}
 use Rattle.refusals.specs.declared.Verdict.{Verdict}
 use Rattle.refusals.specs.declared.Verdict.the-variants.{Accepted, Refused}
 use Rattle.mhz.specs.Reading.{readHertz}
@@ -31,7 +31,7 @@ module _ (v : Hz) where
   unfolding ofHz
   present n e = rw e
 
-  pub outside : (r : Frequency) → v ≡ Outside → r ≡ untunedOf OutsideWindow → r ≡ ofHz v
+  pub outside : (r : Frequency) → v ≡ Outside → r ≡ untunedOf InexactFrequency → r ≡ ofHz v
   unfolding ofHz
   outside r e f = rw e f
 
@@ -49,7 +49,7 @@ module _ (w : Wrote) where
   unfolding ofWrote
   wrote-end n e = rw e
 
-  pub wrote-high : (n : ℕ) → w ≡ TooHigh → n ≡ numberOf HighFrequency → (record { refusal = n; length = 0 }) ≡ ofWrote w
+  pub wrote-high : (n : ℕ) → w ≡ TooHigh → n ≡ numberOf FrequencyTooHigh → (record { refusal = n; length = 0 }) ≡ ofWrote w
   unfolding ofWrote
   wrote-high n e f = rw (e, f)
 

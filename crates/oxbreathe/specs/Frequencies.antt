@@ -5,7 +5,7 @@ use mathlib.Core.List.{List}
 use Prim.Native.Nat.{ℕ}
 use Rattle.refusals.specs.Refusals.{numberOf, placeOf, ofText}
 use Rattle.refusals.specs.declared.Refusal.{Refusal}
-use Rattle.refusals.specs.declared.Refusal.the-variants.{ShortOutput, HighFrequency, OutsideWindow}
+use Rattle.refusals.specs.declared.Refusal.the-variants.{ShortOutput, FrequencyTooHigh, InexactFrequency}
 use Rattle.mhz.specs.Reading.{readHertz}
 use Rattle.mhz.specs.Writing.{answerTo, outputBy}
 use Rattle.mhz.specs.declared.Hz.{Hz}
@@ -24,7 +24,7 @@ unfoldable pub ofHz : Hz → Frequency
 unfolding untunedOf
 ofHz Absent = record { refusal = 0; place = 0; present = false; hz = 0 }
 ofHz (Is n) = record { refusal = 0; place = 0; present = true; hz = n }
-ofHz Outside = untunedOf OutsideWindow
+ofHz Outside = untunedOf InexactFrequency
 
 unfoldable pub frequencyOf : List ℕ → Frequency
 frequencyOf text = answer untunedOf (ofHz (readHertz text)) (ofText text)
@@ -32,7 +32,7 @@ frequencyOf text = answer untunedOf (ofHz (readHertz text)) (ofText text)
 -- a frequency that is too high is refusal 14, an output that is too short 13
 unfoldable pub ofWrote : Wrote → Written
 ofWrote (End next) = record { refusal = 0; length = next }
-ofWrote TooHigh = record { refusal = numberOf HighFrequency; length = 0 }
+ofWrote TooHigh = record { refusal = numberOf FrequencyTooHigh; length = 0 }
 ofWrote Short = record { refusal = numberOf ShortOutput; length = 0 }
 
 pub record WroteMhz (r : Written) (was now : List ℕ) (hz : ℕ) : Type 0 where

@@ -47,7 +47,7 @@ fn of_hz(hz: Hz) -> Frequency
             present: true,
             hz: n,
         },
-        Hz::Outside => untuned(Refusal::OutsideWindow),
+        Hz::Outside => untuned(Refusal::InexactFrequency),
     }
 }
 
@@ -72,7 +72,7 @@ fn of_wrote(wrote: Wrote) -> Written
             length: next,
         },
         Wrote::TooHigh => Written {
-            refusal: number(Refusal::HighFrequency),
+            refusal: number(Refusal::FrequencyTooHigh),
             length: 0,
         },
         Wrote::Short => Written {

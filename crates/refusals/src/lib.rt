@@ -10,8 +10,8 @@ pub enum Refusal {
     // with the place of the first bad byte
     NotUtf8(usize),
     ShortOutput,
-    HighFrequency,
-    OutsideWindow,
+    FrequencyTooHigh,
+    InexactFrequency,
 }
 
 pub enum Verdict {
@@ -26,8 +26,8 @@ pub fn number(r: Refusal) -> u32
         Refusal::TooLong => 1,
         Refusal::NotUtf8(_) => 2,
         Refusal::ShortOutput => 13,
-        Refusal::HighFrequency => 14,
-        Refusal::OutsideWindow => 15,
+        Refusal::FrequencyTooHigh => 14,
+        Refusal::InexactFrequency => 15,
     }
 }
 
@@ -39,8 +39,8 @@ pub fn place(r: Refusal) -> usize
         Refusal::TooLong => 0,
         Refusal::NotUtf8(at) => at,
         Refusal::ShortOutput => 0,
-        Refusal::HighFrequency => 0,
-        Refusal::OutsideWindow => 0,
+        Refusal::FrequencyTooHigh => 0,
+        Refusal::InexactFrequency => 0,
     }
 }
 

@@ -1,17 +1,30 @@
 // Replays recorded answers: for each file named as an argument, how many of its lines the library answers as the line says.
 // A line is OPERATION ARG.. = ANSWER; what the library answers is written out and held against the line's own ANSWER.
 ghost use Prim.Native.Nat.{_≤_};
+ghost use lib.ListN.{length};
 
 struct Tally {
     lines: usize,
     agree: usize,
 }
 
+// What the library answers, put at the front of out; nothing where the operation is unknown.
+fn answered(line: &[u8], a: &mut [u8], b: &mut [u8], out: &mut [u8]) -> usize
+    ensures { λ r. ⌜ r ≤ length (now (out .exit)) ⌝ }
+{
+    let op = notation::word(line, 0);
+    let n = answers_text::answer(op, line, a, b, out);
+    if 0 < n {
+        return n;
+    }
+    answers_mhz::answer(op, line, a, out)
+}
+
 // 1 where the library answers as the line says, else 0; a, b and out are room to work in.
 fn agrees_in(line: &[u8], a: &mut [u8], b: &mut [u8], out: &mut [u8]) -> usize
     ensures { λ r. ⌜ r ≤ 1 ⌝ }
 {
-    let n = answers_text::answer(notation::word(line, 0), line, a, b, out);
+    let n = answered(line, a, b, out);
     if n == 0 {
         return 0;
     }

@@ -2,13 +2,9 @@ use lib.Seq.{length-take-le}
 use borrow.Author.Needs.{needs}
 use Rattle.replay.proofs.agrees_in.Statement.{statement}
 use Rattle.replay.proofs.agrees_in.Tie as tie
-use Rattle.notation.proofs.answer.Reads as answer-reads′
 
-word-requires : tie.Need-word-requires
-word-requires c κs = search needs
-
-answer-requires : tie.Need-answer-requires
-answer-requires c κs = search needs
+answered-requires : tie.Need-answered-requires
+answered-requires c κs = search needs
 
 same-length : tie.Need-same-length
 same-length c = search needs
@@ -28,8 +24,8 @@ slice-reshare-prefix-same c = search needs
 slice-aggregate-same : tie.Need-slice-aggregate-same
 slice-aggregate-same c = search (needs, length-take-le)
 
-answer-requires-2 : tie.Need-answer-requires-2
-answer-requires-2 c κs = search needs
+answer-requires : tie.Need-answer-requires
+answer-requires c κs = search needs
 
 same-requires : tie.Need-same-requires
 same-requires c κs = search needs
@@ -62,15 +58,14 @@ pub agrees-in-spec : {M : Type 1} → statement M
 agrees-in-spec =
     tie.close
     (tie.spec
-    word-requires
-    answer-requires
+    answered-requires
     same-length
     same-length-2
     same-length-3
     returns
     slice-reshare-prefix-same
     slice-aggregate-same
-    answer-requires-2
+    answer-requires
     same-requires
     same-length-4
     same-length-5
