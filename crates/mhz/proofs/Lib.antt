@@ -6,4 +6,5 @@ pub mod TextLaws
 pub mod WriteLaws
 pub mod Formatted
 pub mod ReadBack
+pub mod Says
 pub mod Determined

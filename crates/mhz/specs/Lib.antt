@@ -1,5 +1,6 @@
 pub mod Digits
 pub mod Number
+pub mod Grammar
 pub mod Reading
 pub mod Steps
 pub mod Writing
