@@ -7,4 +7,5 @@ pub mod WriteLaws
 pub mod Formatted
 pub mod ReadBack
 pub mod Says
+pub mod Said
 pub mod Determined

@@ -1,5 +1,5 @@
 -- The grammar of a decimal by concatenation: an optional sign, digits with an optional point, an optional exponent. `proofs/Says.antt`
--- shows that each such text says its number.
+-- and `proofs/Said.antt` show that the texts it makes, and no others, say a decimal by `Number.antt`, and which.
 use mathlib.Core.Path.{_≡_}
 use mathlib.Core.Bool.{Bool, true, false}
 use mathlib.Core.List.{List, [], _∷_, _++_}
