@@ -1,0 +1,58 @@
+-- A place: where the bytes of a text result stand. They are a part of the text, as it stands or in capitals, or an entry of
+-- the table of bands or of modes; or there are none, and the result is absent.
+use Prim.Native.Nat.{ℕ}
+use mathlib.Core.Bool.{Bool}
+use mathlib.Core.List.{List, []}
+use mathlib.Core.Option.{Option, none, some}
+use lib.Dec.{eqb}
+use lib.ListN.{take, drop}
+use Rattle.text.specs.Pick.{pick, within}
+use Rattle.letters.specs.Capitals.{capitals}
+use Rattle.normalize.specs.Table.{entry}
+use Rattle.normalize.specs.Bands.{bandNames}
+use Rattle.normalize.specs.Modes.{modeNames}
+use Rattle.normalize.specs.declared.Place.{Place}
+
+abbrev pub place : ℕ → ℕ → ℕ → Place
+place k a n = record { kind = k; start = a; len = n }
+
+-- the five kinds
+abbrev pub absent : Place
+absent = place 0 0 0
+
+abbrev pub stands : ℕ → ℕ → Place
+stands a n = place 1 a n
+
+abbrev pub inCapitals : ℕ → ℕ → Place
+inCapitals a n = place 2 a n
+
+abbrev pub bandEntry : ℕ → Place
+bandEntry k = place 3 k 0
+
+abbrev pub modeEntry : ℕ → Place
+modeEntry k = place 4 k 0
+
+-- the place is in the text
+abbrev pub inText : Place → Bool
+inText p = within (p .kind) 1 2
+
+-- the part of the text at which the place is, empty where it is not in the text
+unfoldable pub part : List ℕ → Place → List ℕ
+part text p = pick (inText p) (take (p .len) (drop (p .start) text)) []
+
+-- what the place stands for. An entry that its table does not have, and a kind that is none of the five, stand for nothing
+unfoldable pub value : List ℕ → Place → Option (List ℕ)
+value text p =
+    pick (eqb (p .kind) 1) (some (part text p))
+    (pick (eqb (p .kind) 2) (some (capitals (part text p)))
+    (pick (eqb (p .kind) 3) (entry bandNames (p .start))
+    (pick (eqb (p .kind) 4) (entry modeNames (p .start))
+    none)))
+
+-- an optional text of which no difference is made between absent and empty
+abbrev pub orEmpty : Option (List ℕ) → List ℕ
+orEmpty none = []
+orEmpty (some x) = x
+
+abbrev pub bytes : List ℕ → Place → List ℕ
+bytes text p = orEmpty (value text p)
