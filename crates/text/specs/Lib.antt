@@ -4,4 +4,5 @@ pub mod Walk
 pub mod Run
 pub mod Find
 pub mod Utf8
+pub mod Blocks
 pub mod Space

@@ -2,8 +2,8 @@
 use Prim.Native.Nat.{ℕ}
 use mathlib.Core.Bool.{Bool}
 use mathlib.Core.List.{List}
-use lib.ListN.{getD}
-use lib.Dec.{leb}
+use lib.ListN.{length, getD}
+use lib.Dec.{leb, eqb}
 use Rattle.text.specs.Pick.{pick, both, within}
 use Rattle.text.specs.Walk.{lead}
 
@@ -32,3 +32,7 @@ charLen xs = pick (leb (getD xs 0 0) 0x7F) 1 (longChar (getD xs 0 0) (getD xs 1 
 -- how many bytes from the front are whole characters: where the list stops being UTF-8, or its length
 unfoldable pub validUpTo : List ℕ → ℕ
 validUpTo xs = lead charLen xs
+
+-- it is UTF-8 throughout
+unfoldable pub utf8 : List ℕ → Bool
+utf8 xs = eqb (validUpTo xs) (length xs)

@@ -4,10 +4,14 @@ ghost use Prim.Native.Nat.{ℕ, _+_, _≤_, _<_};
 ghost use lib.ListN.{length, getD, drop};
 ghost use Rattle.text.specs.Pick.{pick};
 ghost use Rattle.text.specs.Walk.{ends};
-ghost use Rattle.text.specs.Utf8.{longChar, charLen, validUpTo, second3, second4};
+ghost use Rattle.text.specs.Utf8.{longChar, charLen, validUpTo, second3, second4, utf8};
+ghost use Rattle.text.specs.Blocks.{Passed, UpTo};
 use super::all;
 use super::byte;
 use super::inside;
+
+// How many bytes are looked at together.
+const BLOCK: usize = 256;
 
 fn take_if(t: bool, n: usize) -> usize
     ensures { λ r. ⌜ r ≡ pick t n 0 ⌝ }
@@ -75,12 +79,13 @@ fn char_at(s: &[u8], i: usize) -> usize
     long_char(a, byte(s, i + 1), byte(s, i + 2), byte(s, i + 3))
 }
 
-// The place of the first byte that belongs to no whole character, or the length.
-pub fn valid_up_to(s: &[u8]) -> usize
-    ensures { λ r. ⌜ r ≡ validUpTo (now (s .entry)) ⌝ }
+// From `from` on, character by character: the place where none begins, or the first place from `to` on.
+fn chars_up_to(s: &[u8], from: usize, to: usize) -> usize
+    requires { ⌜ (from ≤ to) × (to ≤ length (now s)) ⌝ }
+    ensures { λ r. ⌜ Passed (now (s .entry)) from to r ⌝ }
 {
-    let mut i = 0;
-    while i < s.len() {
+    let mut i = from;
+    while i < to {
         let w = char_at(s, i);
         if w == 0 {
             return i;
@@ -88,4 +93,58 @@ pub fn valid_up_to(s: &[u8]) -> usize
         i += w;
     }
     i
+}
+
+fn larger(a: u8, b: u8) -> u8
+    ensures { λ r. ⌜ (a ≤ r) × (b ≤ r) ⌝ }
+{
+    if a < b { b } else { a }
+}
+
+// A byte that no byte of s is above.
+fn largest(s: &[u8]) -> u8
+    ensures { λ r. ⌜ UpTo (now (s .entry)) r ⌝ }
+{
+    let mut top: u8 = 0;
+    let mut i = 0;
+    while i < s.len() {
+        top = larger(top, s[i]);
+        i += 1;
+    }
+    top
+}
+
+// Where the block from i on ends.
+fn block_end(i: usize, len: usize) -> usize
+    requires { ⌜ i < len ⌝ }
+    ensures { λ r. ⌜ (i < r) × (r ≤ len) ⌝ }
+{
+    if len - i <= BLOCK { len } else { i + BLOCK }
+}
+
+// The place of the first byte that belongs to no whole character, or the length. A block of ASCII is whole characters and is passed
+// at once.
+pub fn valid_up_to(s: &[u8]) -> usize
+    ensures { λ r. ⌜ r ≡ validUpTo (now (s .entry)) ⌝ }
+{
+    let mut i = 0;
+    while i < s.len() {
+        let e = block_end(i, s.len());
+        if largest(&s[i..e]) <= 0x7F {
+            i = e;
+        } else {
+            let j = chars_up_to(s, i, e);
+            if j < e {
+                return j;
+            }
+            i = j;
+        }
+    }
+    i
+}
+
+pub fn is_utf8(s: &[u8]) -> bool
+    ensures { λ r. ⌜ r ≡ utf8 (now (s .entry)) ⌝ }
+{
+    valid_up_to(s) == s.len()
 }

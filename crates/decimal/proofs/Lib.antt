@@ -1,0 +1,3 @@
+pub mod DecimalLaws
+pub mod SignLaws
+pub mod ReadBack

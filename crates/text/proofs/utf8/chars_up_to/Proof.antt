@@ -1,0 +1,50 @@
+use mathlib.Core.Path.{_≡_, refl}
+use Prim.Native.Nat.{ℕ, _≤_, _<_, _-_}
+use lib.ListN.{length}
+use borrow.Author.Needs.{needs}
+use Rattle.text.specs.Walk.{ends}
+use Rattle.text.specs.Utf8.{charLen}
+use Rattle.text.proofs.Walks.{on}
+use Rattle.text.proofs.utf8.chars_up_to.Statement.{statement}
+use Rattle.text.proofs.utf8.chars_up_to.Tie as tie
+
+abbrev Inv-loop : tie.InvT-loop
+Inv-loop s from to i₀ i = (i ≤ length s) × ((from ≤ i) × (ends charLen s i ≡ ends charLen s from))
+
+abbrev μ-loop : tie.MeasureT-loop
+μ-loop s from to i₀ i = length s - i
+
+loop-holds : tie.Need-loop-holds Inv-loop μ-loop
+loop-holds c = (search needs, (search needs, refl))
+
+char-at-requires : tie.Need-char-at-requires Inv-loop μ-loop
+char-at-requires c κs = search needs
+
+returns : tie.Need-returns Inv-loop μ-loop
+returns c = search needs
+
+add-i : tie.Need-add-i Inv-loop μ-loop
+add-i c = search needs
+
+loop-less : tie.Need-loop-less Inv-loop μ-loop
+loop-less c = search needs
+
+loop-again : tie.Need-loop-again Inv-loop μ-loop
+loop-again c = (search needs, (search needs, search (on charLen)))
+
+returns-2 : tie.Need-returns-2 Inv-loop μ-loop
+returns-2 c = search needs
+
+pub chars-up-to-spec : {M : Type 1} → statement M
+chars-up-to-spec =
+    tie.close
+    (tie.spec
+    Inv-loop
+    μ-loop
+    loop-holds
+    char-at-requires
+    returns
+    add-i
+    loop-less
+    loop-again
+    returns-2)
