@@ -3,11 +3,13 @@ use Prim.Native.Nat.{ℕ}
 use Prim.Native.String.{String}
 use mathlib.Core.Bool.{Bool}
 use mathlib.Core.List.{List, [], _∷_, map}
+use lib.ListN.{length}
 use Rattle.text.specs.Ascii.{ascii}
 use Rattle.text.specs.Pick.{within}
 use Rattle.text.specs.Space.{trimmed}
 use Rattle.normalize.specs.Table.{firstFrom, named}
 use Rattle.normalize.specs.declared.Found.{Found}
+use Rattle.normalize.specs.declared.Span.{Span}
 
 pub record Band : Type 0 where
   pub low : ℕ
@@ -47,6 +49,12 @@ bandNames = map (λ (b : Band). b .name) bands
 abbrev pub holds : ℕ → Band → Bool
 holds hz b = within hz (b .low) (b .high)
 
+-- a column of lower bounds and a column of upper bounds, as bands without names
+unfoldable pub bounded : List ℕ → List ℕ → List Band
+bounded [] hs = []
+bounded (l ∷ ls) [] = []
+bounded (l ∷ ls) (h ∷ hs) = record { low = l; high = h; name = [] } ∷ bounded ls hs
+
 -- the band of a frequency
 unfoldable pub bandFor : ℕ → Found
 bandFor hz = firstFrom (holds hz) 0 bands
@@ -54,3 +62,7 @@ bandFor hz = firstFrom (holds hz) 0 bands
 -- the band that a text names, white space at its ends and the case of its letters aside
 unfoldable pub bandNamed : List ℕ → Found
 bandNamed text = named (trimmed text) bandNames
+
+-- the entries of every band
+unfoldable pub everyBand : Span
+everyBand = record { first = 0; count = length bands }

@@ -2,12 +2,11 @@
 use Prim.Native.Nat.{ℕ}
 use mathlib.Core.Bool.{Bool, true, false}
 use mathlib.Core.List.{List, [], _∷_, map}
-use mathlib.Core.Option.{Option, none, some}
-use lib.ListN.{length}
+use lib.ListN.{length, getD}
 use Rattle.text.specs.Ascii.{ascii}
 use Rattle.text.specs.Pick.{pick}
 use Rattle.text.specs.Space.{trimmed}
-use Rattle.normalize.specs.Table.{entry, firstFrom, named}
+use Rattle.normalize.specs.Table.{firstFrom, named}
 use Rattle.normalize.specs.Modes.{Mode, modes, modeNames}
 use Rattle.normalize.specs.declared.Found.{Found}
 use Rattle.normalize.specs.declared.Found.the-variants.{At, Nothing}
@@ -27,12 +26,19 @@ className Cw = ascii "cw"
 className Digital = ascii "digital"
 className Image = ascii "image"
 
-abbrev pub classed : Option ModeClass → Classed
-classed none = Unclassed
-classed (some c) = In c
+-- a class by its number
+unfoldable pub classNumbered : ℕ → ModeClass
+classNumbered n = getD classes n Phone
 
+abbrev pub classNumber : ModeClass → ℕ
+classNumber Phone = 0
+classNumber Cw = 1
+classNumber Digital = 2
+classNumber Image = 3
+
+-- the class that stands at the entry found
 abbrev pub classAt : List ModeClass → Found → Classed
-classAt cs (At k) = classed (entry cs k)
+classAt cs (At k) = In (getD cs k Phone)
 classAt cs Nothing = Unclassed
 
 -- the class that a text names

@@ -15,7 +15,7 @@ use Rattle.normalize.specs.Place.{absent, inCapitals, modeEntry, inText,
 use Rattle.normalize.specs.declared.Found.{Found}
 use Rattle.normalize.specs.declared.Found.the-variants.{At, Nothing}
 use Rattle.normalize.specs.declared.Place.{Place}
-use Rattle.normalize.specs.declared.Modes.{Modes}
+use Rattle.normalize.specs.declared.ModePair.{ModePair}
 
 -- ---- as bytes
 
@@ -105,7 +105,7 @@ aliasEntry x = entryAt (modeNumbers aliases) (named x (names aliases))
 unfoldable pub aliasedPlace : List ℕ → Place → Place
 aliasedPlace text m = orElse (aliasEntry (part text m)) m
 
-unfoldable pub splitPlace : List ℕ → Place → Modes
+unfoldable pub splitPlace : List ℕ → Place → ModePair
 splitPlace text m =
     pick (isAbsent (parentEntry (part text m)))
     (record { mode = aliasedPlace text m; submode = absent })
@@ -113,7 +113,7 @@ splitPlace text m =
 
 -- of a mode in one text and a submode in another, which may be the same: the mode that comes out is in the first text, and
 -- the submode in the text from which it comes
-unfoldable pub normalPlaces : List ℕ → Place → List ℕ → Place → Modes
+unfoldable pub normalPlaces : List ℕ → Place → List ℕ → Place → ModePair
 normalPlaces mt m st s =
     pick (isEmpty (tidy st s)) (splitPlace mt (tidy mt m))
     (record { mode = orElse (parentEntry (part st (tidy st s))) (aliasedPlace mt (tidy mt m)); submode = tidy st s })

@@ -2,15 +2,18 @@
 -- the table of bands or of modes; or there are none, and the result is absent.
 use Prim.Native.Nat.{ℕ}
 use mathlib.Core.Bool.{Bool}
-use mathlib.Core.List.{List, []}
+use mathlib.Core.List.{List, [], _∷_, _++_}
 use mathlib.Core.Option.{Option, none, some}
 use lib.Dec.{eqb}
-use lib.ListN.{take, drop}
-use Rattle.text.specs.Pick.{pick, within}
+use lib.ListN.{length, getD, take, drop}
+use Rattle.text.specs.Pick.{pick, either}
 use Rattle.letters.specs.Capitals.{capitals}
 use Rattle.normalize.specs.Table.{entry}
 use Rattle.normalize.specs.Bands.{bandNames}
 use Rattle.normalize.specs.Modes.{modeNames}
+use Rattle.normalize.specs.declared.Found.{Found}
+use Rattle.normalize.specs.declared.Found.the-variants.{At, Nothing}
+use Rattle.normalize.specs.declared.Name.{Name}
 use Rattle.normalize.specs.declared.Place.{Place}
 
 abbrev pub place : ℕ → ℕ → ℕ → Place
@@ -34,7 +37,7 @@ modeEntry k = place 4 k 0
 
 -- the place is in the text
 abbrev pub inText : Place → Bool
-inText p = within (p .kind) 1 2
+inText p = either (eqb (p .kind) 1) (eqb (p .kind) 2)
 
 -- the part of the text at which the place is, empty where it is not in the text
 unfoldable pub part : List ℕ → Place → List ℕ
@@ -49,10 +52,33 @@ value text p =
     (pick (eqb (p .kind) 4) (entry modeNames (p .start))
     none)))
 
--- an optional text of which no difference is made between absent and empty
 abbrev pub orEmpty : Option (List ℕ) → List ℕ
 orEmpty none = []
 orEmpty (some x) = x
 
+-- the bytes of a place, where no difference is made between absent and empty
 abbrev pub bytes : List ℕ → Place → List ℕ
 bytes text p = orEmpty (value text p)
+
+-- the entry of a band that was looked for
+abbrev pub bandPlace : Found → Place
+bandPlace (At k) = bandEntry k
+bandPlace Nothing = absent
+
+-- a name with its length, in twelve bytes that are 0 after it
+abbrev pub spelled : List ℕ → Name
+spelled x = record { bytes = take 12 (x ++ (0 ∷ 0 ∷ 0 ∷ 0 ∷ 0 ∷ 0 ∷ 0 ∷ 0 ∷ 0 ∷ 0 ∷ 0 ∷ 0 ∷ [])); len = length x }
+
+abbrev pub noName : Name
+noName = spelled []
+
+-- entry k of a column of names in a fixed width and of the column of their lengths
+unfoldable pub nameAt : List (List ℕ) → List ℕ → ℕ → Name
+nameAt names lens k = record { bytes = getD names k (noName .bytes); len = getD lens k 0 }
+
+-- the name of an entry; no name for a place that is none
+unfoldable pub nameOf : Place → Name
+nameOf p =
+    pick (eqb (p .kind) 3) (spelled (orEmpty (entry bandNames (p .start))))
+    (pick (eqb (p .kind) 4) (spelled (orEmpty (entry modeNames (p .start))))
+    noName)

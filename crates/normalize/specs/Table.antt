@@ -1,9 +1,10 @@
 -- A look-up in a table: the number of the first entry that a test picks.
-use Prim.Native.Nat.{ℕ, zero, suc}
-use mathlib.Core.Bool.{Bool}
+use mathlib.Core.Path.{_≡_}
+use Prim.Native.Nat.{ℕ, zero, suc, _≤_}
+use mathlib.Core.Bool.{Bool, true, false}
 use mathlib.Core.List.{List, [], _∷_}
 use mathlib.Core.Option.{Option, none, some}
-use lib.ListN.{take}
+use lib.ListN.{length, getD, take}
 use Rattle.text.specs.Pick.{pick}
 use Rattle.letters.specs.Same.{sameRaised}
 use Rattle.normalize.specs.declared.Found.{Found}
@@ -29,3 +30,13 @@ unfoldable pub cut : List (List ℕ) → List ℕ → List (List ℕ)
 cut [] lens = []
 cut (n ∷ ns) [] = []
 cut (n ∷ ns) (l ∷ ls) = take l n ∷ cut ns ls
+
+-- what a search of such columns asks: as many names as lengths, no more than a byte counts, none longer than the width
+pub record Columns (names : List (List ℕ)) (lens : List ℕ) : Type 0 where
+  pub alike : length names ≡ length lens
+  pub few : length names ≤ 255
+  pub short : (k : ℕ) → getD lens k 0 ≤ 12
+
+abbrev pub isFound : Found → Bool
+isFound (At k) = true
+isFound Nothing = false

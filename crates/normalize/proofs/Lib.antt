@@ -1,0 +1,4 @@
+pub mod TableLaws
+pub mod PlaceLaws
+pub mod ClassLaws
+pub mod SplitLaws
