@@ -2,3 +2,4 @@ pub mod TableLaws
 pub mod PlaceLaws
 pub mod ClassLaws
 pub mod SplitLaws
+pub mod TrimLaws
