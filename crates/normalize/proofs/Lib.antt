@@ -3,3 +3,6 @@ pub mod PlaceLaws
 pub mod ClassLaws
 pub mod SplitLaws
 pub mod TrimLaws
+pub mod Tested
+pub mod BandTheorems
+pub mod ModeTheorems
