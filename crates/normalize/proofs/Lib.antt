@@ -6,3 +6,4 @@ pub mod TrimLaws
 pub mod Tested
 pub mod BandTheorems
 pub mod ModeTheorems
+pub mod Meaning

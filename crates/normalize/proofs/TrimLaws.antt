@@ -90,7 +90,7 @@ front-cut (suc (suc (suc n))) (a ∷ b ∷ c ∷ xs) e = e
 reverse-take : (xs : List ℕ) (b : ℕ) → b ≤ length xs → reverse (take (length xs - b) xs) ≡ drop b (reverse xs)
 reverse-take xs b h =
     let e : reverse xs ≡ reverse (drop (length xs - b) xs) ++ reverse (take (length xs - b) xs) =
-        ap reverse (sym (take-append-drop (length xs - b) xs)) ∙ reverse-append (take (length xs - b) xs) (drop (length xs - b) xs)
+    ap reverse (sym (take-append-drop (length xs - b) xs)) ∙ reverse-append (take (length xs - b) xs) (drop (length xs - b) xs)
     in
     let l : length (reverse (drop (length xs - b) xs)) ≡ b = length-reverse (drop (length xs - b) xs) ∙ length-drop (length xs - b) xs ∙ omega arith in
     rw e (sym (drop-at (reverse (drop (length xs - b) xs)) (reverse (take (length xs - b) xs)) b l))
@@ -106,12 +106,12 @@ module _ (xs : List ℕ) where
   unfolding trimmed trimEnd
   trimmed-end =
       let le : lead spaceBack (reverse (drop (trimStart xs) xs)) ≤ length (drop (trimStart xs) xs) =
-          rw length-reverse at (lead-le spaceBack back-width (reverse (drop (trimStart xs) xs)))
+      rw length-reverse at (lead-le spaceBack back-width (reverse (drop (trimStart xs) xs)))
       in
       let z : lead spaceBack (reverse (trimmed xs)) ≡ 0 =
-          stops spaceBack (reverse (trimmed xs))
-          (rw (reverse-take (drop (trimStart xs) xs) (lead spaceBack (reverse (drop (trimStart xs) xs))) le)
-          (lead-end spaceBack no-back back-width (reverse (drop (trimStart xs) xs))))
+      stops spaceBack (reverse (trimmed xs))
+      (rw (reverse-take (drop (trimStart xs) xs) (lead spaceBack (reverse (drop (trimStart xs) xs))) le)
+      (lead-end spaceBack no-back back-width (reverse (drop (trimStart xs) xs))))
       in
       rw z (omega arith)
 
@@ -176,8 +176,7 @@ space80-raised c = rw (within-raised c 0x80 0x8A (inr (omega arith)), within-rai
 space3-raised : (a b c : ℕ) → space3 (raised a) (raised b) (raised c) ≡ space3 a b c
 unfolding space3
 space3-raised a b c =
-    simp
-    (
+    simp (
       eqb-raised a 0xE1 (inr (omega arith)),
       eqb-raised a 0xE2 (inr (omega arith)),
       eqb-raised a 0xE3 (inr (omega arith)),
@@ -233,8 +232,7 @@ module _ (h : List ℕ → ℕ) (alike : (xs : List ℕ) → h (capitals xs) ≡
 pub trim-capitals : (xs : List ℕ) → trimmed (capitals xs) ≡ capitals (trimmed xs)
 unfolding trimmed trimStart trimEnd
 trim-capitals xs =
-    rw
-    (
+    rw (
       lead-capitals spaceLen front-raised xs,
       drop-capitals (lead spaceLen xs) xs,
       reverse-capitals (drop (lead spaceLen xs) xs),

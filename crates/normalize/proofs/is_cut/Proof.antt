@@ -3,23 +3,16 @@ use lib.Seq.{length-take-le}
 use borrow.Author.Needs.{needs}
 use Rattle.normalize.proofs.is_cut.Statement.{statement}
 use Rattle.normalize.proofs.is_cut.Tie as tie
-use Rattle.normalize.proofs.is_cut.Reads as reads
-use Rattle.normalize.proofs.is_cut.Lts as lts
-use Rattle.letters.proofs.same_raised.Reads as same-raised-reads
 
--- src/lib.rt:64:32
 array-share-prefix-name : tie.Need-array-share-prefix-name
 array-share-prefix-name c = search needs
 
--- src/lib.rt:64:32
 slice-aggregate-same-raised : tie.Need-slice-aggregate-same-raised
 slice-aggregate-same-raised c = sym (length-take-le _ _ (array-share-prefix-name (c .before)))
 
--- src/lib.rt:64:5
 same-raised-requires : tie.Need-same-raised-requires
 same-raised-requires c κs = search needs
 
--- src/lib.rt:60:1
 returns : tie.Need-returns
 returns c = search needs
 

@@ -5,35 +5,25 @@ use Rattle.normalize.specs.Place.{nameAt}
 use borrow.Author.Needs.{needs}
 use Rattle.normalize.proofs.name_in.Statement.{statement}
 use Rattle.normalize.proofs.name_in.Tie as tie
-use Rattle.normalize.proofs.name_in.Reads as reads
-use Rattle.normalize.proofs.name_in.Lts as lts
-use Rattle.normalize.proofs.no_name.Reads as no-name-reads
 
--- src/lib.rt:98:20
 mul-t6 : tie.Need-mul-t6
 mul-t6 c = search needs
 
--- src/lib.rt:98:20
 shared-slice-copy-out-t8 : tie.Need-shared-slice-copy-out-t8
 shared-slice-copy-out-t8 c = search needs
 
--- src/lib.rt:99:18
 mul-t9 : tie.Need-mul-t9
 mul-t9 c = search needs
 
--- src/lib.rt:99:18
 shared-slice-read-t11 : tie.Need-shared-slice-read-t11
 shared-slice-read-t11 c = search needs
 
--- src/lib.rt:97:9
 returns : tie.Need-returns
 returns c = search entry-here
 
--- src/lib.rt:102:5
 no-name-requires : tie.Need-no-name-requires
 no-name-requires c κs = search needs
 
--- src/lib.rt:92:1
 returns-2 : tie.Need-returns-2
 returns-2 c = search no-entry
 

@@ -5,9 +5,6 @@ use Rattle.normalize.specs.Table.{named, cut}
 use Rattle.normalize.proofs.TableLaws.{Named-from, named-start, named-here, named-on, named-none}
 use Rattle.normalize.proofs.named_in.Statement.{statement}
 use Rattle.normalize.proofs.named_in.Tie as tie
-use Rattle.normalize.proofs.named_in.Reads as reads
-use Rattle.normalize.proofs.named_in.Lts as lts
-use Rattle.normalize.proofs.is_cut.Reads as is-cut-reads
 
 abbrev Inv-loop : tie.InvT-loop
 Inv-loop names lens text i₀ i = (i ≤ length names) × Named-from text names lens i (named text (cut names lens))
@@ -15,51 +12,39 @@ Inv-loop names lens text i₀ i = (i ≤ length names) × Named-from text names 
 abbrev μ-loop : tie.MeasureT-loop
 μ-loop names lens text i₀ i = length names - i
 
--- src/lib.rt:74:5
 loop-holds : tie.Need-loop-holds Inv-loop μ-loop
 loop-holds c = (search needs, named-start _ _ _)
 
--- src/lib.rt:75:25
 mul-is-cut : tie.Need-mul-is-cut Inv-loop μ-loop
 mul-is-cut c = search needs
 
--- src/lib.rt:75:25
 shared-slice-copy-out-is-cut : tie.Need-shared-slice-copy-out-is-cut Inv-loop μ-loop
 shared-slice-copy-out-is-cut c = search needs
 
--- src/lib.rt:75:35
 mul-is-cut-2 : tie.Need-mul-is-cut-2 Inv-loop μ-loop
 mul-is-cut-2 c = search needs
 
--- src/lib.rt:75:35
 shared-slice-read-is-cut : tie.Need-shared-slice-read-is-cut Inv-loop μ-loop
 shared-slice-read-is-cut c = search needs
 
--- src/lib.rt:75:12
 is-cut-requires : tie.Need-is-cut-requires Inv-loop μ-loop
 is-cut-requires c κs = c .before .before .before .before .before .before .pre .short (c .before .before .before .loop .i)
 
--- src/lib.rt:76:30
 cast-t13 : tie.Need-cast-t13 Inv-loop μ-loop
 cast-t13 c = search needs
 
--- src/lib.rt:76:13
 returns : tie.Need-returns Inv-loop μ-loop
 returns c = search named-here
 
--- src/lib.rt:78:9
 add-i : tie.Need-add-i Inv-loop μ-loop
 add-i c = search needs
 
--- src/lib.rt:74:5
 loop-less : tie.Need-loop-less Inv-loop μ-loop
 loop-less c = search needs
 
--- src/lib.rt:74:5
 loop-again : tie.Need-loop-again Inv-loop μ-loop
 loop-again c = (search needs, search named-on)
 
--- src/lib.rt:69:1
 returns-2 : tie.Need-returns-2 Inv-loop μ-loop
 returns-2 c = search named-none
 

@@ -2,22 +2,16 @@ use Rattle.normalize.proofs.TableLaws.{absent-default}
 use borrow.Author.Needs.{needs}
 use Rattle.normalize.proofs.number_at.Statement.{statement}
 use Rattle.normalize.proofs.number_at.Tie as tie
-use Rattle.normalize.proofs.number_at.Reads as reads
-use Rattle.normalize.proofs.number_at.Lts as lts
 
--- src/lib.rt:110:28
 mul-result : tie.Need-mul-result
 mul-result c = search needs
 
--- src/lib.rt:110:28
 shared-slice-read-result : tie.Need-shared-slice-read-result
 shared-slice-read-result c = search needs
 
--- src/lib.rt:106:1
 returns : tie.Need-returns
 returns c = search needs
 
--- src/lib.rt:106:1
 returns-2 : tie.Need-returns-2
 returns-2 c = search absent-default
 

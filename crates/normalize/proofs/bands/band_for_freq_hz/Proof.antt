@@ -5,28 +5,19 @@ use Rattle.normalize.specs.declared.Found.{Found}
 use borrow.Author.Needs.{needs}
 use Rattle.normalize.proofs.bands.band_for_freq_hz.Statement.{statement}
 use Rattle.normalize.proofs.bands.band_for_freq_hz.Tie as tie
-use Rattle.normalize.proofs.bands.band_for_freq_hz.Reads as reads
-use Rattle.normalize.proofs.bands.band_for_freq_hz.Lts as lts
-use Rattle.normalize.proofs.bands.band_in.Reads as band-in-reads
-use Rattle.normalize.proofs.bands.entry_of.Reads as entry-of-reads
 
--- src/bands.rt:118:22
 slice-aggregate-band-in : tie.Need-slice-aggregate-band-in
 slice-aggregate-band-in c = search needs
 
--- src/bands.rt:118:28
 slice-aggregate-band-in-2 : tie.Need-slice-aggregate-band-in-2
 slice-aggregate-band-in-2 c = search needs
 
--- src/bands.rt:118:14
 band-in-requires : tie.Need-band-in-requires
 band-in-requires c κs = search needs
 
--- src/bands.rt:118:5
 entry-of-requires : tie.Need-entry-of-requires
 entry-of-requires c κs = search needs
 
--- src/bands.rt:115:1
 returns : tie.Need-returns
 unfolding bandFor bands bounded
 returns c = c .entry-of .ensures ∙ ap (λ (f : Found). bandPlace f) (c .before .band-in .ensures)

@@ -7,9 +7,6 @@ use Rattle.normalize.specs.Bands.{holds, bounded}
 use Rattle.normalize.proofs.TableLaws.{Held-from, held-here, held-on, held-none}
 use Rattle.normalize.proofs.bands.band_in.Statement.{statement}
 use Rattle.normalize.proofs.bands.band_in.Tie as tie
-use Rattle.normalize.proofs.bands.band_in.Reads as reads
-use Rattle.normalize.proofs.bands.band_in.Lts as lts
-use Rattle.normalize.proofs.bands.held.Reads as held-reads
 
 abbrev Inv-loop : tie.InvT-loop
 Inv-loop low high hz i₀ i = (i ≤ length low) × Held-from hz low high i (firstFrom (holds hz) 0 (bounded low high))
@@ -17,51 +14,39 @@ Inv-loop low high hz i₀ i = (i ≤ length low) × Held-from hz low high i (fir
 abbrev μ-loop : tie.MeasureT-loop
 μ-loop low high hz i₀ i = length low - i
 
--- src/bands.rt:96:5
 loop-holds : tie.Need-loop-holds Inv-loop μ-loop
 loop-holds c = (search needs, refl)
 
--- src/bands.rt:97:17
 mul-held : tie.Need-mul-held Inv-loop μ-loop
 mul-held c = search needs
 
--- src/bands.rt:97:17
 shared-slice-read-held : tie.Need-shared-slice-read-held Inv-loop μ-loop
 shared-slice-read-held c = search needs
 
--- src/bands.rt:97:25
 mul-held-2 : tie.Need-mul-held-2 Inv-loop μ-loop
 mul-held-2 c = search needs
 
--- src/bands.rt:97:25
 shared-slice-read-held-2 : tie.Need-shared-slice-read-held-2 Inv-loop μ-loop
 shared-slice-read-held-2 c = search needs
 
--- src/bands.rt:97:12
 held-requires : tie.Need-held-requires Inv-loop μ-loop
 held-requires c κs = search needs
 
--- src/bands.rt:98:30
 cast-t13 : tie.Need-cast-t13 Inv-loop μ-loop
 cast-t13 c = search needs
 
--- src/bands.rt:98:13
 returns : tie.Need-returns Inv-loop μ-loop
 returns c = search held-here
 
--- src/bands.rt:100:9
 add-i : tie.Need-add-i Inv-loop μ-loop
 add-i c = search needs
 
--- src/bands.rt:96:5
 loop-less : tie.Need-loop-less Inv-loop μ-loop
 loop-less c = search needs
 
--- src/bands.rt:96:5
 loop-again : tie.Need-loop-again Inv-loop μ-loop
 loop-again c = (search needs, search held-on)
 
--- src/bands.rt:91:1
 returns-2 : tie.Need-returns-2 Inv-loop μ-loop
 returns-2 c = search held-none
 

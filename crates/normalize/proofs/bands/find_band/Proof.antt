@@ -7,28 +7,19 @@ use Rattle.normalize.proofs.PlaceLaws.{columns}
 use borrow.Author.Needs.{needs}
 use Rattle.normalize.proofs.bands.find_band.Statement.{statement}
 use Rattle.normalize.proofs.bands.find_band.Tie as tie
-use Rattle.normalize.proofs.bands.find_band.Reads as reads
-use Rattle.normalize.proofs.bands.find_band.Lts as lts
-use Rattle.normalize.proofs.named_in.Reads as named-in-reads
-use Rattle.text.proofs.space.trim.Reads as trim-reads
 
--- src/bands.rt:124:14
 slice-aggregate-named-in : tie.Need-slice-aggregate-named-in
 slice-aggregate-named-in c = search needs
 
--- src/bands.rt:124:22
 slice-aggregate-named-in-2 : tie.Need-slice-aggregate-named-in-2
 slice-aggregate-named-in-2 c = search needs
 
--- src/bands.rt:124:29
 trim-requires : tie.Need-trim-requires
 trim-requires c κs = search needs
 
--- src/bands.rt:124:5
 named-in-requires : tie.Need-named-in-requires
 named-in-requires c κs = columns _ _ refl tt tt
 
--- src/bands.rt:121:1
 returns : tie.Need-returns
 unfolding bandNamed bandNames bands cut
 returns c = c .named-in .ensures ∙ ap (λ (x : List ℕ). named x bandNames) (c .before .trim .ensures)

@@ -1,14 +1,10 @@
 use borrow.Author.Tests.{le-leb, lt-leb}
 use Rattle.normalize.proofs.bands.held.Statement.{statement}
 use Rattle.normalize.proofs.bands.held.Tie as tie
-use Rattle.normalize.proofs.bands.held.Reads as reads
-use Rattle.normalize.proofs.bands.held.Lts as lts
 
--- src/bands.rt:84:1
 returns : tie.Need-returns
 returns c = simp (le-leb _ _ (c .if1 .taken))
 
--- src/bands.rt:84:1
 returns-2 : tie.Need-returns-2
 returns-2 c = simp (lt-leb _ _ (c .if1 .left))
 

@@ -2,27 +2,19 @@ use Rattle.normalize.proofs.ClassLaws.{found-at, found-none}
 use borrow.Author.Needs.{needs}
 use Rattle.normalize.proofs.bands.is_known_band.Statement.{statement}
 use Rattle.normalize.proofs.bands.is_known_band.Tie as tie
-use Rattle.normalize.proofs.bands.is_known_band.Reads as reads
-use Rattle.normalize.proofs.bands.is_known_band.Lts as lts
-use Rattle.normalize.proofs.bands.find_band.Reads as find-band-reads
 
--- src/bands.rt:137:11
 find-band-requires : tie.Need-find-band-requires
 find-band-requires c κs = search needs
 
--- src/bands.rt:138:25
 enum-told : tie.Need-enum-told
 enum-told c = search needs
 
--- src/bands.rt:139:27
 enum-told-2 : tie.Need-enum-told-2
 enum-told-2 c = search needs
 
--- src/bands.rt:134:1
 returns : tie.Need-returns
 returns c = search found-at
 
--- src/bands.rt:134:1
 returns-2 : tie.Need-returns-2
 returns-2 c = search found-none
 

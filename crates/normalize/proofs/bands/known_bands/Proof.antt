@@ -2,10 +2,7 @@ use mathlib.Core.Path.{refl}
 use Rattle.normalize.specs.Bands.{bands, everyBand}
 use Rattle.normalize.proofs.bands.known_bands.Statement.{statement}
 use Rattle.normalize.proofs.bands.known_bands.Tie as tie
-use Rattle.normalize.proofs.bands.known_bands.Reads as reads
-use Rattle.normalize.proofs.bands.known_bands.Lts as lts
 
--- src/bands.rt:139:1
 returns : tie.Need-returns
 unfolding everyBand bands
 returns c = refl

@@ -5,32 +5,22 @@ use Rattle.normalize.proofs.PlaceLaws.{columns}
 use borrow.Author.Needs.{needs}
 use Rattle.normalize.proofs.classes.class_name.Statement.{statement}
 use Rattle.normalize.proofs.classes.class_name.Tie as tie
-use Rattle.normalize.proofs.classes.class_name.Reads as reads
-use Rattle.normalize.proofs.classes.class_name.Lts as lts
-use Rattle.normalize.proofs.classes.class_number.Reads as class-number-reads
-use Rattle.normalize.proofs.name_in.Reads as name-in-reads
 
--- src/classes.rt:105:13
 slice-aggregate-name-in : tie.Need-slice-aggregate-name-in
 slice-aggregate-name-in c = search needs
 
--- src/classes.rt:105:21
 slice-aggregate-name-in-2 : tie.Need-slice-aggregate-name-in-2
 slice-aggregate-name-in-2 c = search needs
 
--- src/classes.rt:105:28
 class-number-requires : tie.Need-class-number-requires
 class-number-requires c κs = search needs
 
--- src/classes.rt:105:28
 cast-name-in : tie.Need-cast-name-in
 cast-name-in c = search needs
 
--- src/classes.rt:105:5
 name-in-requires : tie.Need-name-in-requires
 name-in-requires c κs = columns _ _ refl tt tt
 
--- src/classes.rt:102:1
 returns : tie.Need-returns
 unfolding classes
 returns c = class-spelled (c .before .before .before .before .args .class) _ _ (c .before .class-number .ensures) (c .name-in .ensures)

@@ -1,22 +1,16 @@
 use Rattle.normalize.proofs.ClassLaws.{numbered-1, numbered-2, numbered-3, numbered-else}
 use Rattle.normalize.proofs.classes.class_numbered.Statement.{statement}
 use Rattle.normalize.proofs.classes.class_numbered.Tie as tie
-use Rattle.normalize.proofs.classes.class_numbered.Reads as reads
-use Rattle.normalize.proofs.classes.class_numbered.Lts as lts
 
--- src/classes.rt:63:9
 returns : tie.Need-returns
 returns c = search numbered-1
 
--- src/classes.rt:66:9
 returns-2 : tie.Need-returns-2
 returns-2 c = search numbered-2
 
--- src/classes.rt:69:9
 returns-3 : tie.Need-returns-3
 returns-3 c = search numbered-3
 
--- src/classes.rt:59:1
 returns-4 : tie.Need-returns-4
 returns-4 c = search numbered-else
 

@@ -6,55 +6,38 @@ use Rattle.normalize.proofs.PlaceLaws.{columns}
 use borrow.Author.Needs.{needs}
 use Rattle.normalize.proofs.classes.mode_class.Statement.{statement}
 use Rattle.normalize.proofs.classes.mode_class.Tie as tie
-use Rattle.normalize.proofs.classes.mode_class.Reads as reads
-use Rattle.normalize.proofs.classes.mode_class.Lts as lts
-use Rattle.normalize.proofs.classes.class_numbered.Reads as class-numbered-reads
-use Rattle.normalize.proofs.named_in.Reads as named-in-reads
-use Rattle.normalize.proofs.number_at.Reads as number-at-reads
-use Rattle.text.proofs.space.trim.Reads as trim-reads
 
--- src/classes.rt:85:20
 slice-aggregate-named-in : tie.Need-slice-aggregate-named-in
 slice-aggregate-named-in c = search needs
 
--- src/classes.rt:85:35
 slice-aggregate-named-in-2 : tie.Need-slice-aggregate-named-in-2
 slice-aggregate-named-in-2 c = search needs
 
--- src/classes.rt:85:49
 trim-requires : tie.Need-trim-requires
 trim-requires c κs = search needs
 
--- src/classes.rt:85:11
 named-in-requires : tie.Need-named-in-requires
 named-in-requires c κs = columns _ _ refl tt tt
 
--- src/classes.rt:86:19
 enum-known-k : tie.Need-enum-known-k
 enum-known-k c = search needs
 
--- src/classes.rt:86:62
 slice-aggregate-number-at : tie.Need-slice-aggregate-number-at
 slice-aggregate-number-at c = search needs
 
--- src/classes.rt:86:52
 number-at-requires : tie.Need-number-at-requires
 number-at-requires c κs = search needs
 
--- src/classes.rt:86:37
 class-numbered-requires : tie.Need-class-numbered-requires
 class-numbered-requires c κs = search needs
 
--- src/classes.rt:87:27
 enum-told : tie.Need-enum-told
 enum-told c = search needs
 
--- src/classes.rt:82:1
 returns : tie.Need-returns
 unfolding modeNames modes cut
 returns c = class-found _ _ _ (c .before .before .before .before .before .before .before .trim .ensures) (c .before .before .before .before .before .before .named-in .ensures) _ _ _ (c .before .before .before .before .k .given .1) (c .before .number-at .ensures) (c .class-numbered .ensures)
 
--- src/classes.rt:82:1
 returns-2 : tie.Need-returns-2
 unfolding modeNames modes cut
 returns-2 c = class-unfound _ _ _ (c .before .before .before .trim .ensures) (c .before .before .named-in .ensures) (c .enum-told .given .1)

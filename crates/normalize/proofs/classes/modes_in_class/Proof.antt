@@ -2,38 +2,28 @@ use Rattle.normalize.proofs.ClassLaws.{span-phone, span-cw, span-digita
 use borrow.Author.Needs.{needs}
 use Rattle.normalize.proofs.classes.modes_in_class.Statement.{statement}
 use Rattle.normalize.proofs.classes.modes_in_class.Tie as tie
-use Rattle.normalize.proofs.classes.modes_in_class.Reads as reads
-use Rattle.normalize.proofs.classes.modes_in_class.Lts as lts
 
--- src/classes.rt:113:29
 enum-told : tie.Need-enum-told
 enum-told c = search needs
 
--- src/classes.rt:114:26
 enum-told-2 : tie.Need-enum-told-2
 enum-told-2 c = search needs
 
--- src/classes.rt:115:31
 enum-told-3 : tie.Need-enum-told-3
 enum-told-3 c = search needs
 
--- src/classes.rt:119:29
 enum-told-4 : tie.Need-enum-told-4
 enum-told-4 c = search needs
 
--- src/classes.rt:109:1
 returns : tie.Need-returns
 returns c = search span-phone
 
--- src/classes.rt:109:1
 returns-2 : tie.Need-returns-2
 returns-2 c = search span-cw
 
--- src/classes.rt:109:1
 returns-3 : tie.Need-returns-3
 returns-3 c = search span-digital
 
--- src/classes.rt:109:1
 returns-4 : tie.Need-returns-4
 returns-4 c = search span-image
 

@@ -6,46 +6,32 @@ use Rattle.normalize.proofs.PlaceLaws.{columns}
 use borrow.Author.Needs.{needs}
 use Rattle.normalize.proofs.classes.parse_class.Statement.{statement}
 use Rattle.normalize.proofs.classes.parse_class.Tie as tie
-use Rattle.normalize.proofs.classes.parse_class.Reads as reads
-use Rattle.normalize.proofs.classes.parse_class.Lts as lts
-use Rattle.normalize.proofs.classes.class_numbered.Reads as class-numbered-reads
-use Rattle.normalize.proofs.named_in.Reads as named-in-reads
-use Rattle.text.proofs.space.trim.Reads as trim-reads
 
--- src/classes.rt:75:20
 slice-aggregate-named-in : tie.Need-slice-aggregate-named-in
 slice-aggregate-named-in c = search needs
 
--- src/classes.rt:75:28
 slice-aggregate-named-in-2 : tie.Need-slice-aggregate-named-in-2
 slice-aggregate-named-in-2 c = search needs
 
--- src/classes.rt:75:35
 trim-requires : tie.Need-trim-requires
 trim-requires c κs = search needs
 
--- src/classes.rt:75:11
 named-in-requires : tie.Need-named-in-requires
 named-in-requires c κs = columns _ _ refl tt tt
 
--- src/classes.rt:76:19
 enum-known-k : tie.Need-enum-known-k
 enum-known-k c = search needs
 
--- src/classes.rt:76:37
 class-numbered-requires : tie.Need-class-numbered-requires
 class-numbered-requires c κs = search needs
 
--- src/classes.rt:77:27
 enum-told : tie.Need-enum-told
 enum-told c = search needs
 
--- src/classes.rt:72:1
 returns : tie.Need-returns
 unfolding classes cut
 returns c = class-named _ _ _ (c .before .before .before .before .before .trim .ensures) (c .before .before .before .before .named-in .ensures) _ _ (c .before .before .k .given .1) (c .class-numbered .ensures)
 
--- src/classes.rt:72:1
 returns-2 : tie.Need-returns-2
 unfolding classes cut
 returns-2 c = class-unnamed _ _ _ (c .before .before .before .trim .ensures) (c .before .before .named-in .ensures) (c .enum-told .given .1)

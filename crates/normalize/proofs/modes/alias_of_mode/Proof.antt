@@ -7,32 +7,22 @@ use Rattle.normalize.proofs.PlaceLaws.{columns}
 use borrow.Author.Needs.{needs}
 use Rattle.normalize.proofs.modes.alias_of_mode.Statement.{statement}
 use Rattle.normalize.proofs.modes.alias_of_mode.Tie as tie
-use Rattle.normalize.proofs.modes.alias_of_mode.Reads as reads
-use Rattle.normalize.proofs.modes.alias_of_mode.Lts as lts
-use Rattle.normalize.proofs.modes.mode_at.Reads as mode-at-reads
-use Rattle.normalize.proofs.named_in.Reads as named-in-reads
 
--- src/modes.rt:134:13
 slice-aggregate-mode-at : tie.Need-slice-aggregate-mode-at
 slice-aggregate-mode-at c = search needs
 
--- src/modes.rt:134:32
 slice-aggregate-named-in : tie.Need-slice-aggregate-named-in
 slice-aggregate-named-in c = search needs
 
--- src/modes.rt:134:42
 slice-aggregate-named-in-2 : tie.Need-slice-aggregate-named-in-2
 slice-aggregate-named-in-2 c = search needs
 
--- src/modes.rt:134:23
 named-in-requires : tie.Need-named-in-requires
 named-in-requires c κs = columns _ _ refl tt tt
 
--- src/modes.rt:134:5
 mode-at-requires : tie.Need-mode-at-requires
 mode-at-requires c κs = search needs
 
--- src/modes.rt:131:1
 returns : tie.Need-returns
 unfolding aliasEntry aliases modeNames modes cut
 returns c = c .mode-at .ensures ∙ ap (λ (f : Found). entryAt (modeNumbers aliases) f) (c .before .named-in .ensures)

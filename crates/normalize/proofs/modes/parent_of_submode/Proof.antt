@@ -7,32 +7,22 @@ use Rattle.normalize.proofs.PlaceLaws.{columns}
 use borrow.Author.Needs.{needs}
 use Rattle.normalize.proofs.modes.parent_of_submode.Statement.{statement}
 use Rattle.normalize.proofs.modes.parent_of_submode.Tie as tie
-use Rattle.normalize.proofs.modes.parent_of_submode.Reads as reads
-use Rattle.normalize.proofs.modes.parent_of_submode.Lts as lts
-use Rattle.normalize.proofs.modes.mode_at.Reads as mode-at-reads
-use Rattle.normalize.proofs.named_in.Reads as named-in-reads
 
--- src/modes.rt:128:13
 slice-aggregate-mode-at : tie.Need-slice-aggregate-mode-at
 slice-aggregate-mode-at c = search needs
 
--- src/modes.rt:128:32
 slice-aggregate-named-in : tie.Need-slice-aggregate-named-in
 slice-aggregate-named-in c = search needs
 
--- src/modes.rt:128:43
 slice-aggregate-named-in-2 : tie.Need-slice-aggregate-named-in-2
 slice-aggregate-named-in-2 c = search needs
 
--- src/modes.rt:128:23
 named-in-requires : tie.Need-named-in-requires
 named-in-requires c κs = columns _ _ refl tt tt
 
--- src/modes.rt:128:5
 mode-at-requires : tie.Need-mode-at-requires
 mode-at-requires c κs = search needs
 
--- src/modes.rt:125:1
 returns : tie.Need-returns
 unfolding parentEntry submodes modeNames modes cut
 returns c = c .mode-at .ensures ∙ ap (λ (f : Found). entryAt (modeNumbers submodes) f) (c .before .named-in .ensures)

@@ -3,38 +3,28 @@ use Rattle.normalize.proofs.PlaceLaws.{bytes-past, bytes-few, bytes-all
 use borrow.Author.Needs.{needs}
 use Rattle.normalize.proofs.places.bytes_at.Statement.{statement}
 use Rattle.normalize.proofs.places.bytes_at.Tie as tie
-use Rattle.normalize.proofs.places.bytes_at.Reads as reads
-use Rattle.normalize.proofs.places.bytes_at.Lts as lts
 
--- src/places.rt:94:9
 slice-aggregate-result : tie.Need-slice-aggregate-result
 slice-aggregate-result c = search needs
 
--- src/places.rt:94:9
 returns : tie.Need-returns
 returns c = search bytes-past
 
--- src/places.rt:96:16
 sub-rest : tie.Need-sub-rest
 sub-rest c = search needs
 
--- src/places.rt:96:16
 part-rest-start : tie.Need-part-rest-start
 part-rest-start c = search needs
 
--- src/places.rt:96:16
 part-rest-end : tie.Need-part-rest-end
 part-rest-end c = search needs
 
--- src/places.rt:98:9
 returns-2 : tie.Need-returns-2
 returns-2 c = search bytes-few
 
--- src/places.rt:100:5
 slice-aggregate-result-2 : tie.Need-slice-aggregate-result-2
 slice-aggregate-result-2 c = search (needs, length-take-le)
 
--- src/places.rt:90:1
 returns-3 : tie.Need-returns-3
 returns-3 c = search bytes-all
 

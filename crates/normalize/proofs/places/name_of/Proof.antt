@@ -8,54 +8,39 @@ use Rattle.normalize.proofs.PlaceLaws.{columns}
 use borrow.Author.Needs.{needs}
 use Rattle.normalize.proofs.places.name_of.Statement.{statement}
 use Rattle.normalize.proofs.places.name_of.Tie as tie
-use Rattle.normalize.proofs.places.name_of.Reads as reads
-use Rattle.normalize.proofs.places.name_of.Lts as lts
-use Rattle.normalize.proofs.name_in.Reads as name-in-reads
-use Rattle.normalize.proofs.no_name.Reads as no-name-reads
 
--- src/places.rt:129:13
 cast-k : tie.Need-cast-k
 cast-k c = search needs
 
--- src/places.rt:131:24
 slice-aggregate-name-in : tie.Need-slice-aggregate-name-in
 slice-aggregate-name-in c = search needs
 
--- src/places.rt:131:39
 slice-aggregate-name-in-2 : tie.Need-slice-aggregate-name-in-2
 slice-aggregate-name-in-2 c = search needs
 
--- src/places.rt:131:9
 name-in-requires : tie.Need-name-in-requires
 name-in-requires c κs = columns _ _ refl tt tt
 
--- src/places.rt:131:9
 returns : tie.Need-returns
 unfolding bandNames bands
 returns c = name-of-band _ _ (c .before .before .before .if1 .taken) (c .name-in .ensures ∙ name-at bandNames _)
 
--- src/places.rt:134:24
 slice-aggregate-name-in-3 : tie.Need-slice-aggregate-name-in-3
 slice-aggregate-name-in-3 c = search needs
 
--- src/places.rt:134:39
 slice-aggregate-name-in-4 : tie.Need-slice-aggregate-name-in-4
 slice-aggregate-name-in-4 c = search needs
 
--- src/places.rt:134:9
 name-in-requires-2 : tie.Need-name-in-requires-2
 name-in-requires-2 c κs = columns _ _ refl tt tt
 
--- src/places.rt:134:9
 returns-2 : tie.Need-returns-2
 unfolding modeNames modes
 returns-2 c = name-of-mode _ _ (c .before .before .before .before .before .if1 .left) (c .before .before .before .if2 .taken) (c .name-in2 .ensures ∙ name-at modeNames _)
 
--- src/places.rt:136:5
 no-name-requires : tie.Need-no-name-requires
 no-name-requires c κs = search needs
 
--- src/places.rt:126:1
 returns-3 : tie.Need-returns-3
 returns-3 c = search name-of-none
 

@@ -5,63 +5,43 @@ use Rattle.normalize.proofs.PlaceLaws.{tidy-part, tidy-other, part-leng
 use borrow.Author.Needs.{needs}
 use Rattle.normalize.proofs.places.tidy.Statement.{statement}
 use Rattle.normalize.proofs.places.tidy.Tie as tie
-use Rattle.normalize.proofs.places.tidy.Reads as reads
-use Rattle.normalize.proofs.places.tidy.Lts as lts
-use Rattle.normalize.proofs.places.in_capitals.Reads as in-capitals-reads
-use Rattle.normalize.proofs.places.in_text.Reads as in-text-reads
-use Rattle.normalize.proofs.places.part.Reads as part-reads
-use Rattle.text.proofs.space.trim_end.Reads as trim-end-reads
-use Rattle.text.proofs.space.trim_start.Reads as trim-start-reads
 
--- src/places.rt:114:8
 in-text-requires : tie.Need-in-text-requires
 in-text-requires c κs = search needs
 
--- src/places.rt:115:13
 part-requires : tie.Need-part-requires
 part-requires c κs = search needs
 
--- src/places.rt:116:13
 trim-start-requires : tie.Need-trim-start-requires
 trim-start-requires c κs = search needs
 
--- src/places.rt:117:20
 sub-rest : tie.Need-sub-rest
 sub-rest c = search needs
 
--- src/places.rt:117:20
 part-rest-start : tie.Need-part-rest-start
 part-rest-start c = search needs
 
--- src/places.rt:117:20
 part-rest-end : tie.Need-part-rest-end
 part-rest-end c = search needs
 
--- src/places.rt:118:13
 trim-end-requires : tie.Need-trim-end-requires
 trim-end-requires c κs = search needs
 
--- src/places.rt:119:31
 cast-in-capitals : tie.Need-cast-in-capitals
 cast-in-capitals c = omega (arith, ap length (c .before .before .before .part .ensures), part-length (c .before .before .before .before .before .before .before .args .text .now) (c .before .before .before .before .before .before .before .args .p))
 
--- src/places.rt:119:21
 add-in-capitals : tie.Need-add-in-capitals
 add-in-capitals c = omega (arith, ap length (c .before .before .before .before .part .ensures), part-length (c .before .before .before .before .before .before .before .before .args .text .now) (c .before .before .before .before .before .before .before .before .args .p))
 
--- src/places.rt:119:41
 cast-in-capitals-2 : tie.Need-cast-in-capitals-2
 cast-in-capitals-2 c = omega (arith, ap length (c .before .before .before .before .part .ensures), part-length (c .before .before .before .before .before .before .before .before .args .text .now) (c .before .before .before .before .before .before .before .before .args .p))
 
--- src/places.rt:119:9
 in-capitals-requires : tie.Need-in-capitals-requires
 in-capitals-requires c κs = search needs
 
--- src/places.rt:110:1
 returns : tie.Need-returns
 returns c = search tidy-part
 
--- src/places.rt:110:1
 returns-2 : tie.Need-returns-2
 returns-2 c = search tidy-other
 
