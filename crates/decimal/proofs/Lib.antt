@@ -1,3 +1,4 @@
 pub mod DecimalLaws
 pub mod SignLaws
 pub mod ReadBack
+pub mod Determined

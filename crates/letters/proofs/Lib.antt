@@ -1,3 +1,4 @@
 pub mod CapitalLaws
 pub mod SameLaws
 pub mod OrderLaws
+pub mod Determined

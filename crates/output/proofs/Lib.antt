@@ -1,2 +1,3 @@
 pub mod PutLaws
 pub mod DigitLaws
+pub mod Determined

@@ -1,6 +1,7 @@
 -- UTF-8: the well-formed byte sequences of Unicode's table 3-7. A byte past the end counts as 0, which continues nothing.
 use Prim.Native.Nat.{ℕ}
-use mathlib.Core.Bool.{Bool}
+use mathlib.Core.Path.{_≡_}
+use mathlib.Core.Bool.{Bool, false}
 use mathlib.Core.List.{List}
 use lib.ListN.{length, getD}
 use lib.Dec.{leb, eqb}
@@ -36,3 +37,10 @@ validUpTo xs = lead charLen xs
 -- it is UTF-8 throughout
 unfoldable pub utf8 : List ℕ → Bool
 utf8 xs = eqb (validUpTo xs) (length xs)
+
+abbrev pub Utf8 : List ℕ → Type 0
+Utf8 xs = validUpTo xs ≡ length xs
+
+-- the place i lies between two characters: what stands there continues none
+abbrev pub Between : List ℕ → ℕ → Type 0
+Between xs i = cont (getD xs i 0) ≡ false

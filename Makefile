@@ -1,0 +1,22 @@
+# What one runs here. Each target works from a fresh clone; host/host.sh fetches what it lacks.
+.PHONY: test compare bench record preview
+
+# the gate: ends in `N passed, 0 failed`
+test:
+	@gate/test.sh
+
+# every comparison at its full count, for docs/COMPARISONS.md
+compare:
+	@host/host.sh compare full
+
+# instructions and times of the library and the original
+bench:
+	@host/host.sh bench
+
+# the recorded answers of Rust's std and the original
+record:
+	@host/host.sh record
+
+# what importing FILE would do
+preview:
+	@echo 'preview: comes with the planner, which is not there yet' >&2; exit 2

@@ -1,0 +1,2 @@
+// The calls that C and Rust link, and nothing else: each asks nothing of its caller, tests its texts, and answers with numbers.
+pub mod texts;

@@ -1,0 +1,44 @@
+#!/bin/sh
+# The gate: the layout of the sources, every proof, must-fail edit and program, and the library beside Rust's std and
+# the original. Each part runs whatever the others said. The last line is `N passed, M failed`.
+set -u
+cd "$(dirname "$0")/.." || exit 1
+log=$(mktemp -d)
+trap 'rm -rf "$log"' EXIT
+passed=0 failed=0 failures=
+
+# part NAME COMMAND..: runs it, shows and keeps what it prints, and leaves its status in $status
+part() {
+    name=$1
+    shift
+    echo "== $name"
+    began=$(date +%s)
+    { "$@" 2>&1; echo $? >"$log/status"; } | tee "$log/out"
+    status=$(cat "$log/status")
+    echo "== $name: $(($(date +%s) - began)) s"
+}
+# count PASSED FAILED: a part that failed counts for one failure at least, whatever it printed
+count() {
+    bad=$2
+    [ "$status" = 0 ] || [ "$bad" -gt 0 ] || bad=1
+    passed=$((passed + $1)) failed=$((failed + bad))
+    [ "$bad" = 0 ] || failures="$failures $name"
+}
+# told FORM: the two numbers of the last line of that form, where \1 is what passed and \2 what failed; without one, a
+# failure
+told() { sed -n "s/^$1\$/\1 \2/p" "$log/out" | tail -n 1 | grep . || echo 0 1; }
+
+part format rt fmt --check
+count $((status == 0)) 0
+
+part proofs rt ci
+# shellcheck disable=SC2046
+count $(told '\([0-9]*\) passed, \([0-9]*\) failed')
+
+part host host/host.sh compare
+# shellcheck disable=SC2046
+count $(told 'host: \([0-9]*\) groups passed, \([0-9]*\) failed, [0-9]* comparisons')
+
+[ -z "$failures" ] || echo "failed:$failures"
+echo "$passed passed, $failed failed"
+[ "$failed" = 0 ]

@@ -1,0 +1,54 @@
+//! The rows of the table. Both sides start from bytes, so both test for UTF-8 what the library tests.
+
+use crate::measure::Row;
+use oxbreathe::text;
+use std::hint::black_box;
+use std::str::from_utf8;
+
+pub fn all() -> Vec<Row> {
+    let ascii = kept(b"<CALL:4>W1AW <BAND:3>40m <EOR>\n".repeat(40_000)[..1 << 20].to_vec());
+    let mixed = kept(mixed(1 << 20));
+    let padded = kept((0..1_000).map(|i| format!(" \t\u{A0}{:>w$}\u{3000}\r\n", "W1AW/P", w = i % 16)).collect());
+    let spelled = kept((0..1_000).map(|i| (u64::MAX >> (i % 64)).to_string()).collect());
+    let numbers = kept((0..1_000).map(|i| u64::MAX >> (i % 64)).collect());
+    vec![
+        Row::new("utf8 check", "1 MiB of ASCII", ascii, |t| text::check(t).is_ok(), |t| from_utf8(t).is_ok()),
+        Row::new("utf8 check", "1 MiB, 10% wide", mixed, |t| text::check(t).is_ok(), |t| from_utf8(t).is_ok()),
+        Row::new(
+            "trim",
+            "1,000 texts",
+            padded,
+            |all| sum(all, |t: &String| text::trim(t.as_bytes()).map_or(0, |kept| kept.len() as u64)),
+            |all| sum(all, |t: &String| from_utf8(t.as_bytes()).map_or(0, |t| t.trim().len() as u64)),
+        ),
+        Row::new(
+            "unsigned",
+            "1,000 numbers",
+            spelled,
+            |all| sum(all, |t: &String| text::unsigned(t.as_bytes()).ok().flatten().unwrap_or(0)),
+            |all| sum(all, |t: &String| from_utf8(t.as_bytes()).ok().and_then(|t| t.parse().ok()).unwrap_or(0)),
+        ),
+        Row::new(
+            "digits",
+            "1,000 numbers",
+            numbers,
+            |all| sum(all, |&n: &u64| text::digits(n, &mut [0; 20]).map_or(0, |written| written.len() as u64)),
+            |all| sum(all, |&n: &u64| n.to_string().len() as u64),
+        ),
+    ]
+}
+
+/// For as long as the program runs: a row's input is shared by both its sides.
+fn kept<T>(list: Vec<T>) -> &'static [T] {
+    list.leak()
+}
+
+fn sum<T>(all: &[T], of: impl Fn(&T) -> u64) -> u64 {
+    all.iter().fold(0, |sum, t| sum.wrapping_add(of(black_box(t))))
+}
+
+/// One character in ten is of two bytes or of three, by turns.
+fn mixed(length: usize) -> Vec<u8> {
+    let ten = ["twenty me", "é", "tres, RST", "€"].concat();
+    ten.repeat(length / ten.len()).into_bytes()
+}

@@ -1,0 +1,44 @@
+//! The comparison: the library's answers beside those of Rust's std and of the original, in one process.
+//!   compare sample|full VECTORS   every group, at that depth; VECTORS is the folder of recorded answers to replay
+//!   compare record DIR            records those answers
+//! SEED changes the random part; ONLY runs the groups whose name starts with it.
+
+mod generate;
+mod harness;
+mod notation;
+#[cfg(original)]
+mod original;
+mod rust;
+mod text;
+mod vectors;
+
+use harness::Run;
+use std::path::Path;
+use std::process::ExitCode;
+
+/// The seed of the gate and of the recorded vectors.
+const SEED: u64 = 20_260_301;
+
+fn main() -> ExitCode {
+    let arguments: Vec<String> = std::env::args().skip(1).collect();
+    let seed = std::env::var("SEED").map_or(Ok(SEED), |s| s.parse()).expect("SEED is a number");
+    match arguments.iter().map(String::as_str).collect::<Vec<_>>()[..] {
+        ["record", folder] => vectors::record(Path::new(folder), seed),
+        [depth @ ("sample" | "full"), folder] => compare(Run::new(depth == "full", seed), Path::new(folder)),
+        _ => {
+            eprintln!("compare sample|full VECTORS, or compare record DIR");
+            ExitCode::from(2)
+        }
+    }
+}
+
+/// Every area's groups. A new area is a module with a `run`, called here.
+fn compare(mut run: Run, folder: &Path) -> ExitCode {
+    text::run(&mut run);
+    vectors::run(&mut run, folder);
+    #[cfg(original)]
+    original::run(&mut run);
+    #[cfg(not(original))]
+    run.left_out("the original's sources are not at hand (RIGFLOW_SRC): compared with std and the vectors alone");
+    run.finish()
+}

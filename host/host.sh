@@ -1,0 +1,243 @@
+#!/bin/sh
+# Builds the test host (the library, Rust's std and the original rigflow in one process) and runs it:
+#   host/host.sh compare [full]   the library's answers against std's and the original's, group by group
+#   host/host.sh bench            instructions of both between marks, one table; on x86-64 times as well
+#   host/host.sh record [DIR]     the answers of std and the original as vectors, into DIR (else where they are kept)
+# RIGFLOW_SRC: the original's sources. OXBREATHE_CACHE: where fetched packages stay. OXBREATHE_LIB: a folder with
+# a liboxbreathe.a to use instead of the one that rt builds. SEED and ONLY: see compare/main.rs.
+#
+# On x86-64 the machine's rustc and cc build it. On aarch64 Debian's rustc-web (unpacked, never installed) builds it
+# for x86-64, which is all that rt's static library is for; the kit's clang and lld link it and the kit's qemu runs
+# it. No root is needed, and no network but Debian's packages, each fetched once.
+set -eu
+root=$(cd "$(dirname "$0")/.." && pwd -P)
+host=$root/host
+cache=${OXBREATHE_CACHE:-${HOME:-$root}/.cache/oxbreathe}
+out=$root/.cache/host # this checkout's own build; what checkouts can share is in $cache
+vectors=$root/vectors
+arch=$(uname -m)
+target=x86_64-unknown-linux-gnu
+
+say() { echo "host: $*"; }
+die() {
+    say "$*" >&2
+    exit 1
+}
+
+# ---- Debian's packages, with lists and a cache of their own, for both architectures, whatever dpkg was told
+
+apt_ready() {
+    [ -z "${apt:-}" ] || return 0
+    for tool in apt-get dpkg dpkg-deb; do
+        command -v $tool >/dev/null || die "cannot fetch $1: no $tool on this machine"
+    done
+    mkdir -p "$cache/apt/lists/partial" "$cache/apt/cache/archives/partial"
+    apt="-q=2 -o Dir::State=$cache/apt -o Dir::State::lists=$cache/apt/lists -o Dir::State::status=/var/lib/dpkg/status
+         -o Dir::Cache=$cache/apt/cache -o APT::Architectures::=$(dpkg --print-architecture) -o APT::Architectures::=amd64
+         -o APT::Sandbox::User= -o Acquire::Languages=none -o Acquire::Retries=3 -o Debug::NoLocking=1"
+    # shellcheck disable=SC2086
+    apt-get $apt update >"$cache/apt/log" 2>&1 || unfetched "$1"
+}
+# unfetched PACKAGE..: apt's first complaint is the cause, the later ones follow from it
+unfetched() { die "cannot fetch $*: $(grep -m 1 '^[WE]:' "$cache/apt/log")"; }
+# unpack DIR PACKAGE..: the packages' files, below DIR
+unpack() {
+    into=$1
+    shift
+    say "fetching $*"
+    rm -rf "$into" "$cache/debs"
+    mkdir -p "$into" "$cache/debs"
+    # shellcheck disable=SC2086
+    (cd "$cache/debs" && apt-get $apt download "$@") >>"$cache/apt/log" 2>&1 || unfetched "$@"
+    for deb in "$cache"/debs/*.deb; do
+        dpkg-deb --fsys-tarfile "$deb" | tar -x -C "$into" --exclude=./usr/share/doc --exclude=./usr/share/man --exclude='*/rustdoc'
+    done
+    rm -rf "$cache/debs"
+}
+# lacking PACKAGE: it and what it needs, as far as the machine has them not
+# shellcheck disable=SC2086
+lacking() { apt-get $apt install -s --no-install-recommends "$1" | awk '/^Inst/ {print $2}'; }
+
+# ---- a rustc that builds for x86-64: $rustc, $flags, and $run to run what it built
+
+native() {
+    command -v rustc >/dev/null || die "no rustc: Rust 1.85 or newer is needed to build the host"
+    rustc=rustc flags='' run=''
+}
+cross() {
+    command -v rt >/dev/null || die "no rt: the Rattle kit links and runs the host here"
+    kit=${RATTLE_HOME:-$(dirname "$(dirname "$(readlink -f "$(command -v rt)")")")}
+    tools=$kit/on/$arch/toolchain
+    if [ ! -f "$cache/cross.ok" ]; then
+        apt_ready rustc-web
+        here=$(dpkg --print-architecture)
+        # the newest version that both architectures have
+        # shellcheck disable=SC2086
+        version=$(apt-cache $apt madison rustc-web | awk '{print $3}' | while read -r v; do
+            if apt-cache $apt show "libstd-rust-web-dev:amd64=$v" >/dev/null 2>&1; then
+                echo "$v"
+                break
+            fi
+        done)
+        [ -n "$version" ] || die "cannot fetch rustc-web: none that has a libstd-rust-web-dev:amd64"
+        # shellcheck disable=SC2086
+        std=$(apt-cache $apt show "libstd-rust-web-dev=$version" | sed -n 's/^Depends:.*\(libstd-rust-web-[0-9][0-9.]*\).*/\1/p' | head -n 1)
+        # shellcheck disable=SC2086
+        llvm=$(apt-cache $apt show "$std=$version" | sed -n 's/^Depends:.*\(libllvm[0-9]*\).*/\1/p' | head -n 1)
+        # shellcheck disable=SC2046
+        unpack "$cache/cross" "rustc-web=$version" "$std:$here=$version" "libstd-rust-web-dev:amd64=$version" \
+            "libstd-rust-web-dev:$here=$version" $(lacking "$llvm")
+        touch "$cache/cross.ok"
+    fi
+    link=$out/link
+    mkdir -p "$link"
+    cat >"$link/rustc" <<END
+#!/bin/sh
+LD_LIBRARY_PATH=$(echo "$cache"/cross/usr/lib/*-linux-gnu) exec $cache/cross/usr/bin/rustc "\$@"
+END
+    # the kit's C library has no linker scripts: these stand for them
+    for lib in util rt pthread dl; do "$tools/bin/llvm-ar" rc "$link/lib$lib.a"; done
+    echo "GROUP ( $tools/lib/libc.so.6 $tools/lib/libc_nonshared.a AS_NEEDED ( $tools/lib/ld-linux-x86-64.so.2 ) )" >"$link/libc.so"
+    echo "GROUP ( $tools/lib/libgcc_s.so.1 $tools/lib/libgcc.a )" >"$link/libgcc_s.so"
+    echo "INPUT ( $tools/lib/libm.so.6 )" >"$link/libm.so"
+    "$tools/bin/clang" --target=$target -O2 -fPIC -c "$host/emulator/shim.c" -o "$link/shim.o"
+    cat >"$link/cc" <<END
+#!/bin/sh
+exec $tools/bin/clang --target=$target -fuse-ld=$tools/bin/ld.lld -nostartfiles -Wl,--dynamic-linker=$tools/lib/ld-linux-x86-64.so.2 -Wl,-rpath,$tools/lib -L $link -L $tools/lib $tools/lib/Scrt1.o $tools/lib/crti.o $tools/lib/crtbeginS.o $link/shim.o "\$@" $tools/lib/crtendS.o $tools/lib/crtn.o
+END
+    chmod +x "$link/rustc" "$link/cc"
+    rustc=$link/rustc flags="--target $target -C linker=$link/cc" run=$tools/bin/qemu-x86_64
+}
+
+# ---- the parts, each a plain call of rustc
+
+# crate NAME EDITION FILE OPTION..: compiled into $to
+crate() {
+    name=$1 edition=$2 file=$3
+    shift 3
+    # shellcheck disable=SC2086
+    "$rustc" --crate-name "$name" --edition "$edition" -O $flags -L "$to" --out-dir "$to" "$@" "$file"
+}
+# chrono and what it needs, from Debian's sources, and a stub of serde; compiled once for each compiler
+dependencies() {
+    deps=$cache/deps-$("$rustc" -vV | cksum | cut -d ' ' -f 1)
+    [ ! -f "$deps/ok" ] || return 0
+    sources=/usr/share/cargo/registry
+    if [ -z "$(find "$sources" -maxdepth 1 -name 'chrono-0.4*' 2>/dev/null)" ]; then
+        sources=$cache/sources/usr/share/cargo/registry
+        if [ ! -f "$cache/sources.ok" ]; then
+            apt_ready librust-chrono-dev
+            unpack "$cache/sources" librust-chrono-dev librust-num-integer-dev librust-num-traits-dev
+            touch "$cache/sources.ok"
+        fi
+    fi
+    to=$deps
+    mkdir -p "$to"
+    set -- --crate-type rlib --cap-lints allow --cfg 'feature="std"'
+    crate num_traits 2015 "$sources"/num-traits-0.2*/src/lib.rs "$@" --cfg has_i128
+    crate num_integer 2015 "$sources"/num-integer-0.1*/src/lib.rs "$@" --cfg has_i128 --extern num_traits="$to/libnum_traits.rlib"
+    crate chrono 2018 "$sources"/chrono-0.4*/src/lib.rs "$@" --cfg 'feature="alloc"' \
+        --extern num_traits="$to/libnum_traits.rlib" --extern num_integer="$to/libnum_integer.rlib"
+    # a derive runs inside the compiler: it is built for this machine, not for the target
+    "$rustc" --crate-name serde --crate-type proc-macro --edition 2021 --out-dir "$to" "$host/original/serde.rs"
+    touch "$to/ok"
+}
+# original OPTION..: the original's files where they lie, through a link beside the crate's root
+original() {
+    source=${RIGFLOW_SRC:-$root/../shared/docs/src}/rigflow-log/src
+    with_original=
+    if [ ! -f "$source/adif.rs" ]; then
+        [ -z "${RIGFLOW_SRC:-}" ] || die "RIGFLOW_SRC has no rigflow-log/src/adif.rs: $RIGFLOW_SRC"
+        return 0
+    fi
+    dependencies
+    to=$out/$program
+    mkdir -p "$out/original"
+    ln -sfn "$(cd "$source" && pwd -P)" "$out/original/rigflow"
+    cp "$host/original/lib.rs" "$out/original/lib.rs"
+    crate original 2024 "$out/original/lib.rs" --crate-type rlib --cap-lints allow \
+        --extern serde="$deps/libserde.so" --extern chrono="$deps/libchrono.rlib" -L "$deps" "$@"
+    with_original="--cfg original --extern original=$to/liboriginal.rlib -L $deps"
+}
+# the static library, built anew where a file or a folder of the crates is newer
+staticlib() {
+    made=$archive/liboxbreathe.a
+    if [ -f "$made" ] && [ -z "$(find "$root/crates" "$root/crates.txt" -newer "$made" | head -n 1)" ]; then
+        return 0
+    fi
+    (cd "$root" && rt staticlib oxbreathe) >"$out/staticlib.log" 2>&1 || {
+        cat "$out/staticlib.log"
+        die "rt staticlib oxbreathe failed"
+    }
+}
+# build NAME OPTION..: the program NAME; the options are for the original
+build() {
+    program=$1
+    shift
+    archive=${OXBREATHE_LIB:-$root/target/staticlib}
+    [ -n "${OXBREATHE_LIB:-}" ] || staticlib
+    [ -f "$archive/liboxbreathe.a" ] || die "no $archive/liboxbreathe.a"
+    # one checkout at a time fetches into the cache
+    exec 9>"$cache/lock"
+    flock 9
+    case $arch in
+    x86_64) native ;;
+    aarch64) cross ;;
+    *) die "no recipe for a machine of kind $arch" ;;
+    esac
+    mkdir -p "$out/$program"
+    original "$@"
+    exec 9>&-
+    to=$out/$program
+    crate oxbreathe 2024 "$host/oxbreathe/lib.rs" --crate-type rlib -L "native=$archive"
+    # shellcheck disable=SC2086
+    crate "$program" 2024 "$host/$program/main.rs" --check-cfg 'cfg(original)' $with_original \
+        --extern oxbreathe="$to/liboxbreathe.rlib"
+    say "$program built by $("$rustc" -V) for $arch"
+}
+
+# ---- what can be asked for
+
+# The original is to panic where a sum wraps, as in a debug build: that is one of the answers to compare.
+compare() {
+    build compare -C overflow-checks=on
+    $run "$to/compare" "$@"
+}
+# The original is built as its users build it. Debian's qemu-user counts, since the kit's takes no plugin.
+bench() {
+    build bench
+    if [ ! -f "$cache/qemu.ok" ]; then
+        apt_ready qemu-user
+        # shellcheck disable=SC2046
+        unpack "$cache/qemu" $(lacking qemu-user)
+        touch "$cache/qemu.ok"
+    fi
+    cc -O2 -shared -fPIC -fvisibility=hidden -o "$out/libcount.so" "$host/emulator/count.c" || die "no cc to build the counter"
+    LD_LIBRARY_PATH=$(echo "$cache"/qemu/usr/lib/*-linux-gnu) "$cache/qemu/usr/bin/qemu-x86_64" \
+        -plugin "$out/libcount.so" "$to/bench" count 2>"$out/counts"
+    case $arch in
+    x86_64) "$to/bench" table "$out/counts" time ;;
+    *) $run "$to/bench" table "$out/counts" ;;
+    esac
+}
+
+mkdir -p "$cache" "$out"
+export RUST_BACKTRACE=0
+case ${1:-} in
+compare)
+    case ${2:-} in
+    '') compare sample "$vectors" ;;
+    full) compare full "$vectors" ;;
+    *) die "compare takes nothing, or full" ;;
+    esac
+    ;;
+bench) bench ;;
+record)
+    mkdir -p "${2:-$vectors}"
+    compare record "${2:-$vectors}"
+    ;;
+*)
+    sed -n '3,5s/^#   //p' "$0"
+    exit 2
+    ;;
+esac
