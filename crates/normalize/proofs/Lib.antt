@@ -7,3 +7,4 @@ pub mod Tested
 pub mod BandTheorems
 pub mod ModeTheorems
 pub mod Meaning
+pub mod Determined
