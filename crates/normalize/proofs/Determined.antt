@@ -43,6 +43,8 @@ use Rattle.normalize.proofs.classes.parse_class.Reads as parse-class
 use Rattle.normalize.proofs.classes.parse_class.Kinds as parse-class-kinds
 use Rattle.normalize.proofs.classes.mode_class.Reads as mode-class
 use Rattle.normalize.proofs.classes.mode_class.Kinds as mode-class-kinds
+use Rattle.normalize.proofs.classes.class_numbered.Reads as class-numbered
+use Rattle.normalize.proofs.classes.class_numbered.Kinds as class-numbered-kinds
 use Rattle.normalize.proofs.classes.class_number.Reads as class-number
 use Rattle.normalize.proofs.classes.class_number.Kinds as class-number-kinds
 use Rattle.normalize.proofs.classes.class_name.Reads as class-name
@@ -108,6 +110,9 @@ parse-class-once κs a x y d e p q = p ∙ sym q
 
 mode-class-once : Once 1 mode-class-kinds.ps mode-class-kinds.r mode-class.Post
 mode-class-once κs a x y d e p q = p ∙ sym q
+
+class-numbered-once : Once 0 class-numbered-kinds.ps class-numbered-kinds.r class-numbered.Post
+class-numbered-once κs a x y d e p q = p ∙ sym q
 
 class-number-once : Once 0 class-number-kinds.ps class-number-kinds.r class-number.Post
 class-number-once κs a x y d e p q = p ∙ sym q

@@ -56,7 +56,7 @@ const CLASSES: [u32; 31] = [
     3,
 ];
 
-fn class_numbered(n: u32) -> ModeClass
+pub fn class_numbered(n: u32) -> ModeClass
     ensures { λ r. ⌜ r ≡ classNumbered n ⌝ }
 {
     if n == 1 {

@@ -21,12 +21,14 @@ pub struct Place {
 }
 
 // The name of an entry, with 0 after it.
+#[repr(C)]
 pub struct Name {
     pub bytes: [u8; 12],
     pub len: usize,
 }
 
 // Entries of a table, one after the other.
+#[repr(C)]
 pub struct Span {
     pub first: u32,
     pub count: u32,
