@@ -11,7 +11,8 @@ pub fn all() -> Vec<Row> {
     let padded = kept((0..1_000).map(|i| format!(" \t\u{A0}{:>w$}\u{3000}\r\n", "W1AW/P", w = i % 16)).collect());
     let spelled = kept((0..1_000).map(|i| (u64::MAX >> (i % 64)).to_string()).collect());
     let numbers = kept((0..1_000).map(|i| u64::MAX >> (i % 64)).collect());
-    vec![
+    #[cfg_attr(not(original), allow(unused_mut))]
+    let mut rows = vec![
         Row::new("utf8 check", "1 MiB of ASCII", ascii, |t| text::check(t).is_ok(), |t| from_utf8(t).is_ok()),
         Row::new("utf8 check", "1 MiB, 10% wide", mixed, |t| text::check(t).is_ok(), |t| from_utf8(t).is_ok()),
         Row::new(
@@ -34,6 +35,51 @@ pub fn all() -> Vec<Row> {
             numbers,
             |all| sum(all, |&n: &u64| text::digits(n, &mut [0; 20]).map_or(0, |written| written.len() as u64)),
             |all| sum(all, |&n: &u64| n.to_string().len() as u64),
+        ),
+    ];
+    #[cfg(original)]
+    rows.extend(normalizing());
+    rows
+}
+
+/// Bands and modes, beside the original.
+#[cfg(original)]
+fn normalizing() -> Vec<Row> {
+    use original::normalize as theirs;
+    use oxbreathe::normalize as ours;
+    // from 100 kHz to 1.4 GHz, and the names as operators write them
+    let dials = kept((0..1_000).map(|i| 100_000 + i * i * 1_400).collect::<Vec<u64>>());
+    let bands = kept("40m 20M 2m 70cm 160m 6M 23cm 10m 40M 5m".split(' ').cycle().take(1_000).collect::<Vec<&str>>());
+    let modes = kept("SSB USB FT8 cw FT4 RTTY psk31 LSB MFSK DIG".split(' ').cycle().take(1_000).collect::<Vec<&str>>());
+    vec![
+        Row::new(
+            "band of Hz",
+            "1,000 dials",
+            dials,
+            |all| sum(all, |&hz: &u64| ours::band_for_freq_hz(hz).map_or(0, |band| band.len() as u64)),
+            |all| sum(all, |&hz: &u64| theirs::band_for_freq_hz(hz).map_or(0, |band| band.len() as u64)),
+        ),
+        Row::new(
+            "band by name",
+            "1,000 names",
+            bands,
+            |all| sum(all, |t: &&str| ours::canonical_band(t.as_bytes()).map_or(0, |b| b.map_or(0, |b| b.len() as u64))),
+            |all| {
+                sum(all, |t: &&str| {
+                    from_utf8(t.as_bytes()).map_or(0, |t| theirs::canonical_band(t).map_or(0, |b| b.len() as u64))
+                })
+            },
+        ),
+        Row::new(
+            "mode",
+            "1,000 modes",
+            modes,
+            |all| sum(all, |t: &&str| ours::normalize_mode(t.as_bytes(), None).map_or(0, |(m, _)| m.len() as u64)),
+            |all| {
+                sum(all, |t: &&str| {
+                    from_utf8(t.as_bytes()).map_or(0, |t| theirs::normalize_mode(t, None).0.len() as u64)
+                })
+            },
         ),
     ]
 }

@@ -5,6 +5,8 @@
 
 mod generate;
 mod harness;
+#[cfg(original)]
+mod normalize;
 mod notation;
 #[cfg(original)]
 mod original;
@@ -36,6 +38,8 @@ fn main() -> ExitCode {
 fn compare(mut run: Run, folder: &Path) -> ExitCode {
     text::run(&mut run);
     vectors::run(&mut run, folder);
+    #[cfg(original)]
+    normalize::run(&mut run);
     #[cfg(original)]
     original::run(&mut run);
     #[cfg(not(original))]
