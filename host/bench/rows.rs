@@ -56,17 +56,17 @@ fn normalizing() -> Vec<Row> {
             "band of Hz",
             "1,000 dials",
             dials,
-            |all| sum(all, |&hz: &u64| ours::band_for_freq_hz(hz).map_or(0, |band| band.len() as u64)),
-            |all| sum(all, |&hz: &u64| theirs::band_for_freq_hz(hz).map_or(0, |band| band.len() as u64)),
+            |all| sum(all, |&hz: &u64| ours::band_for_freq_hz(hz).is_some() as u64),
+            |all| sum(all, |&hz: &u64| theirs::band_for_freq_hz(hz).is_some() as u64),
         ),
         Row::new(
             "band by name",
             "1,000 names",
             bands,
-            |all| sum(all, |t: &&str| ours::canonical_band(t.as_bytes()).map_or(0, |b| b.map_or(0, |b| b.len() as u64))),
+            |all| sum(all, |t: &&str| ours::canonical_band(t.as_bytes()).is_ok_and(|band| band.is_some()) as u64),
             |all| {
                 sum(all, |t: &&str| {
-                    from_utf8(t.as_bytes()).map_or(0, |t| theirs::canonical_band(t).map_or(0, |b| b.len() as u64))
+                    from_utf8(t.as_bytes()).is_ok_and(|t| theirs::canonical_band(t).is_some()) as u64
                 })
             },
         ),

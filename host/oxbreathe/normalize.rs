@@ -19,23 +19,30 @@ impl Deref for Name {
 const BAND: u32 = 3;
 const MODE: u32 = 4;
 
-/// The name of a band's entry, or none where the place is absent.
-fn band(place: Place) -> Option<Name> {
-    (place.kind == BAND).then(|| Name(sys::entry_name(BAND, place.start)))
-}
+/// A band of the library's table.
+#[derive(Clone, Copy, Debug, PartialEq, Eq, PartialOrd, Ord, Hash)]
+pub struct Band(u32);
 
-fn entries(kind: u32, span: sys::Span) -> impl Iterator<Item = Name> {
-    (span.first..span.first + span.count).map(move |k| Name(sys::entry_name(kind, k)))
+impl Band {
+    /// The band at a place, or none where the place is absent.
+    fn at(place: Place) -> Option<Band> {
+        (place.kind == BAND).then_some(Band(place.start))
+    }
+
+    pub fn name(self) -> Name {
+        Name(sys::entry_name(BAND, self.0))
+    }
 }
 
 /// The band of a frequency.
-pub fn band_for_freq_hz(hz: u64) -> Option<Name> {
-    band(sys::band_for_freq_hz(hz))
+pub fn band_for_freq_hz(hz: u64) -> Option<Band> {
+    Band::at(sys::band_for_freq_hz(hz))
 }
 
 /// Every band, low to high.
-pub fn known_bands() -> impl Iterator<Item = Name> {
-    entries(BAND, sys::band_all())
+pub fn known_bands() -> impl Iterator<Item = Band> {
+    let all = sys::band_all();
+    (all.first..all.first + all.count).map(Band)
 }
 
 /// Does the text name a band, white space around it and the case of its letters aside.
@@ -46,10 +53,10 @@ pub fn is_known_band(text: &[u8]) -> Result<bool, Refusal> {
 }
 
 /// The band that the text names.
-pub fn canonical_band(text: &[u8]) -> Result<Option<Name>, Refusal> {
+pub fn canonical_band(text: &[u8]) -> Result<Option<Band>, Refusal> {
     let r = sys::band_canonical(text);
     Refusal::told(r.refusal, r.place)?;
-    Ok(band(r.entry))
+    Ok(Band::at(r.entry))
 }
 
 /// ADIF's MODE and SUBMODE for a mode and a submode as they were written.
@@ -109,5 +116,6 @@ pub fn mode_class(text: &[u8]) -> Result<Option<ModeClass>, Refusal> {
 
 /// The modes in a class.
 pub fn modes_in_class(class: ModeClass) -> impl Iterator<Item = Name> {
-    entries(MODE, sys::class_modes(class as u32))
+    let all = sys::class_modes(class as u32);
+    (all.first..all.first + all.count).map(|k| Name(sys::entry_name(MODE, k)))
 }

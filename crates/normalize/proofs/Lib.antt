@@ -1,9 +1,10 @@
 pub mod TableLaws
+pub mod Tested
+pub mod KeyLaws
 pub mod PlaceLaws
 pub mod ClassLaws
 pub mod SplitLaws
 pub mod TrimLaws
-pub mod Tested
 pub mod BandTheorems
 pub mod ModeTheorems
 pub mod Meaning

@@ -1,11 +1,13 @@
 -- A look-up in a table: the number of the first entry that a test picks.
 use mathlib.Core.Path.{_≡_}
-use Prim.Native.Nat.{ℕ, zero, suc, _≤_}
+use Prim.Native.Nat.{ℕ, zero, suc, _+_, _*_, _≤_, _<_}
 use mathlib.Core.Bool.{Bool, true, false}
 use mathlib.Core.List.{List, [], _∷_}
 use mathlib.Core.Option.{Option, none, some}
 use lib.ListN.{length, getD, take}
+use lib.Dec.{ltb}
 use Rattle.text.specs.Pick.{pick}
+use Rattle.letters.specs.Capitals.{raised}
 use Rattle.letters.specs.Same.{sameRaised}
 use Rattle.normalize.specs.declared.Found.{Found}
 use Rattle.normalize.specs.declared.Found.the-variants.{At, Nothing}
@@ -40,3 +42,16 @@ pub record Columns (names : List (List ℕ)) (lens : List ℕ) : Type 0 where
 abbrev pub isFound : Found → Bool
 isFound (At k) = true
 isFound Nothing = false
+
+-- ---- a short text as a number: its bytes in capitals are the digits in base 256, after a leading 1
+abbrev pub digits : ℕ → List ℕ → ℕ
+digits k [] = k
+digits k (x ∷ xs) = digits (k * 256 + raised x) xs
+
+-- 0 for a text of more than seven bytes
+unfoldable pub keyOf : List ℕ → ℕ
+keyOf xs = pick (ltb 7 (length xs)) 0 (digits 1 xs)
+
+-- every element is a byte
+unfoldable pub Bytes : List ℕ → Type 0
+Bytes xs = (k : ℕ) → getD xs k 0 < 256

@@ -10,7 +10,7 @@ ghost use Rattle.normalize.specs.Place.{bandPlace};
 use super::Found;
 use super::Place;
 use super::Span;
-use super::named_in;
+use super::keyed_in;
 use super::places;
 
 const LOW: [u64; 19] = [
@@ -55,6 +55,29 @@ const HIGH: [u64; 19] = [
     450_000_000,
     928_000_000,
     1_300_000_000,
+];
+
+// The names as keys: 1, then the bytes in capitals.
+const KEYS: [u64; 19] = [
+    0x1_32_31_39_30_4D,
+    0x1_36_33_30_4D,
+    0x1_31_36_30_4D,
+    0x1_38_30_4D,
+    0x1_36_30_4D,
+    0x1_34_30_4D,
+    0x1_33_30_4D,
+    0x1_32_30_4D,
+    0x1_31_37_4D,
+    0x1_31_35_4D,
+    0x1_31_32_4D,
+    0x1_31_30_4D,
+    0x1_36_4D,
+    0x1_34_4D,
+    0x1_32_4D,
+    0x1_31_2E_32_35_4D,
+    0x1_37_30_43_4D,
+    0x1_33_33_43_4D,
+    0x1_32_33_43_4D,
 ];
 
 pub const NAMES: [[u8; 12]; 19] = [
@@ -121,7 +144,7 @@ pub fn band_for_freq_hz(hz: u64) -> Place
 fn find_band(band: &[u8]) -> Found
     ensures { λ r. ⌜ r ≡ bandNamed (now (band .entry)) ⌝ }
 {
-    named_in(&NAMES, &LENS, text::space::trim(band))
+    keyed_in(&KEYS, text::space::trim(band))
 }
 
 // The entry of the band that the text names, so that "40M" is "40m". Absent if it names none: the caller leaves it alone.

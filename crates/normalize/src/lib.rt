@@ -3,7 +3,8 @@ ghost use mathlib.Core.Path.{_≡_};
 ghost use Prim.Native.Nat.{_≤_};
 ghost use lib.ListN.{length, getD, take};
 ghost use Rattle.letters.specs.Same.{sameRaised};
-ghost use Rattle.normalize.specs.Table.{Columns, cut, named};
+ghost use lib.Dec.{eqb};
+ghost use Rattle.normalize.specs.Table.{Columns, Bytes, cut, firstFrom, keyOf, named};
 ghost use Rattle.normalize.specs.Place.{noName, nameAt};
 
 pub mod bands;
@@ -110,4 +111,49 @@ fn number_at(numbers: &[u32], k: u32) -> u32
 {
     let i = k as usize;
     if i < numbers.len() { numbers[i] } else { 0 }
+}
+
+fn wide(b: u8) -> u64
+    ensures { λ r. ⌜ r ≡ b ⌝ }
+{
+    b as u64
+}
+
+// A text of up to seven bytes as a number, the case of letters aside; 0 for a longer one.
+fn key(text: &[u8]) -> u64
+    ensures { λ r. ⌜ r ≡ keyOf (now (text .entry)) ⌝ }
+{
+    if 7 < text.len() {
+        return 0;
+    }
+    let mut k: u64 = 1;
+    let mut i = 0;
+    while i < text.len() {
+        k = k * 256 + wide(letters::raise(text[i]));
+        i += 1;
+    }
+    k
+}
+
+// The first entry with that key.
+fn first_key(keys: &[u64], k: u64) -> Found
+    requires { ⌜ length (now keys) ≤ 255 ⌝ }
+    ensures { λ r. ⌜ r ≡ firstFrom (eqb k) 0 (now (keys .entry)) ⌝ }
+{
+    let mut i = 0;
+    while i < keys.len() {
+        if k == keys[i] {
+            return Found::At(i as u32);
+        }
+        i += 1;
+    }
+    Found::Nothing
+}
+
+// The first entry whose key is that of the text: a compare chain, where names of bytes would be laid on the stack.
+fn keyed_in(keys: &[u64], text: &[u8]) -> Found
+    requires { ⌜ length (now keys) ≤ 255 ⌝ }
+    ensures { λ r. ⌜ (r ≡ firstFrom (eqb (keyOf (now (text .entry)))) 0 (now (keys .entry))) × Bytes (now (text .entry)) ⌝ }
+{
+    first_key(keys, key(text))
 }

@@ -6,7 +6,7 @@ ghost use Rattle.normalize.specs.Normal.{entryAt, parentEntry, aliasEntr
 use super::Found;
 use super::ModePair;
 use super::Place;
-use super::named_in;
+use super::keyed_in;
 use super::number_at;
 use super::places;
 
@@ -78,36 +78,33 @@ pub const LENS: [usize; 31] = [
     3,
 ];
 
-const SUBMODES: [[u8; 12]; 10] = [
-    *b"PSK31\0\0\0\0\0\0\0",
-    *b"PSK63\0\0\0\0\0\0\0",
-    *b"PSK125\0\0\0\0\0\0",
-    *b"QPSK31\0\0\0\0\0\0",
-    *b"QPSK63\0\0\0\0\0\0",
-    *b"FT4\0\0\0\0\0\0\0\0\0",
-    *b"JS8\0\0\0\0\0\0\0\0\0",
-    *b"JT65A\0\0\0\0\0\0\0",
-    *b"JT65B\0\0\0\0\0\0\0",
-    *b"JT65C\0\0\0\0\0\0\0",
+// The submodes as keys: 1, then the bytes of the name.
+const SUBMODES: [u64; 10] = [
+    0x1_50_53_4B_33_31, // PSK31
+    0x1_50_53_4B_36_33, // PSK63
+    0x1_50_53_4B_31_32_35, // PSK125
+    0x1_51_50_53_4B_33_31, // QPSK31
+    0x1_51_50_53_4B_36_33, // QPSK63
+    0x1_46_54_34, // FT4
+    0x1_4A_53_38, // JS8
+    0x1_4A_54_36_35_41, // JT65A
+    0x1_4A_54_36_35_42, // JT65B
+    0x1_4A_54_36_35_43, // JT65C
 ];
-
-const SUBMODE_LENS: [usize; 10] = [5, 5, 6, 6, 6, 3, 3, 5, 5, 5];
 
 // The number of each submode's parent among the modes.
 const PARENTS: [u32; 10] = [14, 14, 14, 14, 14, 6, 6, 7, 7, 7];
 
 // What operators and other software write that is not ADIF's mode: USB and LSB are sidebands.
-const ALIASES: [[u8; 12]; 7] = [
-    *b"USB\0\0\0\0\0\0\0\0\0",
-    *b"LSB\0\0\0\0\0\0\0\0\0",
-    *b"CWU\0\0\0\0\0\0\0\0\0",
-    *b"CWL\0\0\0\0\0\0\0\0\0",
-    *b"PKTUSB\0\0\0\0\0\0",
-    *b"DIG\0\0\0\0\0\0\0\0\0",
-    *b"DATA\0\0\0\0\0\0\0\0",
+const ALIASES: [u64; 7] = [
+    0x1_55_53_42, // USB
+    0x1_4C_53_42, // LSB
+    0x1_43_57_55, // CWU
+    0x1_43_57_4C, // CWL
+    0x1_50_4B_54_55_53_42, // PKTUSB
+    0x1_44_49_47, // DIG
+    0x1_44_41_54_41, // DATA
 ];
-
-const ALIAS_LENS: [usize; 7] = [3, 3, 3, 3, 6, 3, 4];
 
 // The number of the mode for which each alias stands.
 const ALIASED: [u32; 7] = [0, 0, 4, 4, 6, 6, 6];
@@ -125,13 +122,13 @@ fn mode_at(numbers: &[u32], f: Found) -> Place
 fn parent_of_submode(sm: &[u8]) -> Place
     ensures { λ r. ⌜ r ≡ parentEntry (now (sm .entry)) ⌝ }
 {
-    mode_at(&PARENTS, named_in(&SUBMODES, &SUBMODE_LENS, sm))
+    mode_at(&PARENTS, keyed_in(&SUBMODES, sm))
 }
 
 fn alias_of_mode(mode: &[u8]) -> Place
     ensures { λ r. ⌜ r ≡ aliasEntry (now (mode .entry)) ⌝ }
 {
-    mode_at(&ALIASED, named_in(&ALIASES, &ALIAS_LENS, mode))
+    mode_at(&ALIASED, keyed_in(&ALIASES, mode))
 }
 
 fn alias_mode(text: &[u8], m: Place) -> Place

@@ -4,7 +4,7 @@ use super::{Area, Operation, Question, told};
 use crate::generate::{Random, WHITE, damage};
 use crate::notation::Argument::{self, Number, Text};
 use crate::notation::bars;
-use oxbreathe::normalize::{self as ours, ModeClass};
+use oxbreathe::normalize::{self as ours, Band, ModeClass};
 
 pub const AREA: Area = Area {
     name: "normalize",
@@ -22,12 +22,12 @@ const OPERATIONS: &[Operation] = &[
     Operation {
         name: "frequency",
         theirs: theirs::frequency,
-        ours: |a| shown(ours::band_for_freq_hz(a[0].number()).as_deref()),
+        ours: |a| shown(ours::band_for_freq_hz(a[0].number()).map(Band::name).as_deref()),
     },
     Operation {
         name: "band",
         theirs: theirs::band,
-        ours: |a| told(ours::canonical_band(a[0].text()), |band| shown(band.as_deref())),
+        ours: |a| told(ours::canonical_band(a[0].text()), |band| shown(band.map(Band::name).as_deref())),
     },
     Operation {
         name: "mode",

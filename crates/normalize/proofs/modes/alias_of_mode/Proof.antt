@@ -1,9 +1,10 @@
 use mathlib.Core.Path.{refl, ap, _∙_}
-use Rattle.normalize.specs.Table.{cut}
+use Rattle.letters.specs.Capitals.{raised}
+use Rattle.normalize.specs.Table.{keyOf}
 use Rattle.normalize.specs.Modes.{modes, modeNames, aliases}
-use Rattle.normalize.specs.Normal.{entryAt, modeNumbers, aliasEntry}
+use Rattle.normalize.specs.Normal.{entryAt, modeNumbers, names, aliasEntry}
 use Rattle.normalize.specs.declared.Found.{Found}
-use Rattle.normalize.proofs.PlaceLaws.{columns}
+use Rattle.normalize.proofs.KeyLaws.{keys-named}
 use borrow.Author.Needs.{needs}
 use Rattle.normalize.proofs.modes.alias_of_mode.Statement.{statement}
 use Rattle.normalize.proofs.modes.alias_of_mode.Tie as tie
@@ -11,29 +12,25 @@ use Rattle.normalize.proofs.modes.alias_of_mode.Tie as tie
 slice-aggregate-mode-at : tie.Need-slice-aggregate-mode-at
 slice-aggregate-mode-at c = search needs
 
-slice-aggregate-named-in : tie.Need-slice-aggregate-named-in
-slice-aggregate-named-in c = search needs
+slice-aggregate-keyed-in : tie.Need-slice-aggregate-keyed-in
+slice-aggregate-keyed-in c = search needs
 
-slice-aggregate-named-in-2 : tie.Need-slice-aggregate-named-in-2
-slice-aggregate-named-in-2 c = search needs
-
-named-in-requires : tie.Need-named-in-requires
-named-in-requires c κs = columns _ _ refl tt tt
+keyed-in-requires : tie.Need-keyed-in-requires
+keyed-in-requires c κs = search needs
 
 mode-at-requires : tie.Need-mode-at-requires
 mode-at-requires c κs = search needs
 
 returns : tie.Need-returns
-unfolding aliasEntry aliases modeNames modes cut
-returns c = c .mode-at .ensures ∙ ap (λ (f : Found). entryAt (modeNumbers aliases) f) (c .before .named-in .ensures)
+unfolding aliasEntry aliases modeNames modes keyOf raised
+returns c = c .mode-at .ensures ∙ ap (λ (f : Found). entryAt (modeNumbers aliases) f) (keys-named _ (names aliases) _ refl (c .before .keyed-in .ensures))
 
 pub alias-of-mode-spec : {M : Type 1} → statement M
 alias-of-mode-spec =
     tie.close
     (tie.spec
     slice-aggregate-mode-at
-    slice-aggregate-named-in
-    slice-aggregate-named-in-2
-    named-in-requires
+    slice-aggregate-keyed-in
+    keyed-in-requires
     mode-at-requires
     returns)
