@@ -50,7 +50,8 @@ fn normalizing() -> Vec<Row> {
     // from 100 kHz to 1.4 GHz, and the names as operators write them
     let dials = kept((0..1_000).map(|i| 100_000 + i * i * 1_400).collect::<Vec<u64>>());
     let bands = kept("40m 20M 2m 70cm 160m 6M 23cm 10m 40M 5m".split(' ').cycle().take(1_000).collect::<Vec<&str>>());
-    let modes = kept("SSB USB FT8 cw FT4 RTTY psk31 LSB MFSK DIG".split(' ').cycle().take(1_000).collect::<Vec<&str>>());
+    let modes =
+        kept("SSB USB FT8 cw FT4 RTTY psk31 LSB MFSK DIG".split(' ').cycle().take(1_000).collect::<Vec<&str>>());
     vec![
         Row::new(
             "band of Hz",
@@ -65,9 +66,7 @@ fn normalizing() -> Vec<Row> {
             bands,
             |all| sum(all, |t: &&str| ours::canonical_band(t.as_bytes()).is_ok_and(|band| band.is_some()) as u64),
             |all| {
-                sum(all, |t: &&str| {
-                    from_utf8(t.as_bytes()).is_ok_and(|t| theirs::canonical_band(t).is_some()) as u64
-                })
+                sum(all, |t: &&str| from_utf8(t.as_bytes()).is_ok_and(|t| theirs::canonical_band(t).is_some()) as u64)
             },
         ),
         Row::new(

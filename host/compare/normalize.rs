@@ -81,7 +81,8 @@ fn mode_names() -> Vec<String> {
 fn names(g: &mut Group, names: &[String], mut same: impl FnMut(&mut Group, &[u8])) {
     for name in names {
         for mixture in 0..1u32 << name.len().min(g.depth(6, 12)) {
-            let mixed: String = name.chars().enumerate().map(|(i, c)| flipped(c, mixture >> i.min(31) & 1 == 1)).collect();
+            let mixed: String =
+                name.chars().enumerate().map(|(i, c)| flipped(c, mixture >> i.min(31) & 1 == 1)).collect();
             same(g, mixed.as_bytes());
         }
         for c in WHITE.into_iter().chain(BESIDE.chars()) {
@@ -184,10 +185,18 @@ fn tables(g: &mut Group) {
     g.same(0, list(&mut ours::known_bands().map(ours::Band::name)), band_names());
     for (a, b) in ours::ModeClass::ALL.into_iter().zip(theirs::ModeClass::ALL) {
         g.same(0, a.name().to_string(), b.as_str().to_string());
-        g.same(0, list(&mut ours::modes_in_class(a)), theirs::modes_in_class(*b).iter().map(|m| m.to_string()).collect());
+        g.same(
+            0,
+            list(&mut ours::modes_in_class(a)),
+            theirs::modes_in_class(*b).iter().map(|m| m.to_string()).collect(),
+        );
     }
     for hz in [7_300_000, 7_300_001] {
-        g.same(hz, ours::band_for_freq_hz(hz).map(|band| band.name().to_string()), theirs::band_for_freq_hz(hz).map(str::to_string));
+        g.same(
+            hz,
+            ours::band_for_freq_hz(hz).map(|band| band.name().to_string()),
+            theirs::band_for_freq_hz(hz).map(str::to_string),
+        );
     }
     for class in [4, 5, u32::MAX] {
         g.same(class as u64, (sys::class_modes(class), sys::class_name(class)), Default::default());

@@ -1,7 +1,7 @@
 //! Bands, modes and mode classes. A text is refused as in [`text`](crate::text).
 
-use crate::sys::{self, Place};
 use crate::Refusal;
+use crate::sys::{self, Place};
 use std::ops::Deref;
 
 /// A name of one of the library's tables, by value.

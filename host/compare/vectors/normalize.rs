@@ -153,7 +153,9 @@ fn questions(random: &mut Random) -> Vec<Question> {
 
 fn spellings(all: &mut Vec<Question>, random: &mut Random, operation: &'static str, name: &str) {
     let white = random.pick(&WHITE);
-    for text in [name.to_string(), name.to_ascii_lowercase(), name.to_ascii_uppercase(), format!("{white}{name}{white}")] {
+    for text in
+        [name.to_string(), name.to_ascii_lowercase(), name.to_ascii_uppercase(), format!("{white}{name}{white}")]
+    {
         all.push((operation, vec![of(text)]));
     }
     let mut near = name.as_bytes().to_vec();
