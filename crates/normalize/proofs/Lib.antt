@@ -1,5 +1,5 @@
-pub mod TableLaws
 pub mod Tested
+pub mod TableLaws
 pub mod KeyLaws
 pub mod PlaceLaws
 pub mod ClassLaws

@@ -1,20 +1,23 @@
 -- Laws of a look-up in a table: what a loop over its columns asks. Assumes nothing.
 use mathlib.Core.Path.{_≡_, refl, sym, _∙_}
 use mathlib.Core.Bool.{Bool, true, false}
+use mathlib.Core.Logic.{⊎-elim}
 use mathlib.Core.List.{List, [], _∷_, map}
-use Prim.Native.Nat.{ℕ, zero, suc, _+_, _≤_, _<_}
-use native.Mathlib.Nat.{not-suc-le-zero, le-of-suc-le-suc}
+use Prim.Native.Nat.{ℕ, zero, suc, _+_, _-_, _≤_, _<_}
+use native.Mathlib.Nat.{not-suc-le-zero, le-of-suc-le-suc, eq-or-lt-of-le}
 use native.Mathlib.Numerals.{add-one}
 use native.Mathlib.Omega.{arith}
-use lib.Dec.{T, leb}
+use lib.Dec.{T, leb, ltb}
 use lib.ListN.{length, getD, drop, take, List·getD-eq-default}
 use lib.Seq.{drop-nil}
-use borrow.Author.Tests.{leb-true}
-use Rattle.text.specs.Pick.{both, within}
+use borrow.Author.Tests.{le-leb, lt-leb, leb-true, ltb-true}
+use Rattle.text.specs.Pick.{both}
+use Rattle.text.proofs.Utf8Laws.{both-no}
 use Rattle.letters.specs.Same.{sameRaised}
 use Rattle.normalize.specs.Table.{firstFrom, named, cut, entry, Columns}
-use Rattle.normalize.specs.Bands.{Band, bounded, holds}
+use Rattle.normalize.specs.Bands.{Band, bounded, holds, below, apart}
 use Rattle.normalize.specs.Place.{spelled, orEmpty, nameAt}
+use Rattle.normalize.proofs.Tested.{both-left, both-right}
 use Rattle.normalize.specs.declared.Found.{Found}
 use Rattle.normalize.specs.declared.Found.the-variants.{At, Nothing}
 
@@ -74,21 +77,50 @@ pub named-none : (text : List ℕ) (ns : List (List ℕ)) (ls : List ℕ) (i : �
 named-none text ns ls i r h q = rw (cut-past ns ls i h) at q
 
 -- ---- by frequency
+below-at : (h : ℕ) (ls : List ℕ) → below h ls ≡ true → (k : ℕ) → k < length ls → h < getD ls k 0
+below-at h [] t k l = absurd (not-suc-le-zero l)
+below-at h (x ∷ xs) t zero l = ltb-true h x (both-left (ltb h x) (below h xs) t)
+below-at h (x ∷ xs) t (suc k) l = below-at h xs (both-right (ltb h x) (below h xs) t) k (le-of-suc-le-suc l)
+
+apart-at : (hs ls : List ℕ) → length ls ≡ length hs → apart hs ls ≡ true → (j k : ℕ) → j < k → k < length ls → getD hs j 0 < getD ls k 0
+apart-at hs [] e t j k l h = absurd (not-suc-le-zero h)
+apart-at [] (x ∷ xs) e t j k l h = absurd (omega arith)
+apart-at (y ∷ ys) (x ∷ xs) e t j zero l h = absurd (not-suc-le-zero l)
+apart-at (y ∷ ys) (x ∷ xs) e t zero (suc k) l h = below-at y xs (both-left (below y xs) (apart ys xs) t) k (le-of-suc-le-suc h)
+apart-at (y ∷ ys) (x ∷ xs) e t (suc j) (suc k) l h =
+    apart-at ys xs (omega arith) (both-right (below y xs) (apart ys xs) t) j k (le-of-suc-le-suc l) (le-of-suc-le-suc h)
+
+none-from : (hz : ℕ) (ls hs : List ℕ) → length ls ≡ length hs → (n i : ℕ) → n ≡ length ls - i → ((k : ℕ) → i ≤ k → k < length ls → hz < getD ls k 0)
+    → firstFrom (holds hz) i (drop i (bounded ls hs)) ≡ Nothing
+none-from hz ls hs a zero i e above = rw (bounded-past ls hs i (omega arith)) refl
+none-from hz ls hs a (suc n) i e above =
+    let hl : i < length ls = omega arith in
+    let hh : i < length hs = omega arith in
+    rw (bounded-drop ls hs i hl hh, lt-leb (getD ls i 0) hz (above i (omega arith) hl))
+    (none-from hz ls hs a n (suc i) (omega arith) (λ k g h. above k (omega arith) h))
+
 abbrev pub Held-from : ℕ → List ℕ → List ℕ → ℕ → Found → Type 0
 Held-from hz ls hs i r = firstFrom (holds hz) i (drop i (bounded ls hs)) ≡ r
 
 module _ (hz : ℕ) (ls hs : List ℕ) (i : ℕ) (r : Found) (hl : i < length ls) (alike : length ls ≡ length hs) (q : Held-from hz ls hs i r) where
-  module _ (b : Bool) (e : b ≡ within hz (getD ls i 0) (getD hs i 0)) where
-    cut-here : firstFrom (holds hz) i (record { low = getD ls i 0; high = getD hs i 0; name = [] } ∷ drop (suc i) (bounded ls hs)) ≡ r
-    cut-here =
-        let hh : i < length hs = omega arith in
-        rw (bounded-drop ls hs i hl hh) at q
+  cut-here : firstFrom (holds hz) i (record { low = getD ls i 0; high = getD hs i 0; name = [] } ∷ drop (suc i) (bounded ls hs)) ≡ r
+  cut-here =
+      let hh : i < length hs = omega arith in
+      rw (bounded-drop ls hs i hl hh) at q
 
-    pub held-here : b ≡ true → At i ≡ r
-    held-here t = simp (← e, t) at cut-here
+  pub held-here : hz ≤ getD hs i 0 → getD ls i 0 ≤ hz → At i ≡ r
+  held-here b a = simp (le-leb (getD ls i 0) hz a, le-leb hz (getD hs i 0) b) at cut-here
 
-    pub held-on : b ≡ false → Held-from hz ls hs (i + 1) r
-    held-on t = rw add-one (simp (← e, t) at cut-here)
+  pub held-on : getD hs i 0 < hz → Held-from hz ls hs (i + 1) r
+  held-on b = rw add-one (simp (lt-leb hz (getD hs i 0) b, both-no) at cut-here)
+
+  -- below this band and above the ones before: in none
+  pub held-between : apart hs ls ≡ true → hz ≤ getD hs i 0 → hz < getD ls i 0 → Nothing ≡ r
+  held-between t b a = sym (none-from hz ls hs alike (length ls - i) i refl all-above) ∙ q
+    where
+      all-above : (k : ℕ) → i ≤ k → k < length ls → hz < getD ls k 0
+      all-above k g h =
+          ⊎-elim (λ e. rw (← e) a) (λ l. omega (arith, apart-at hs ls alike t i k l h)) (eq-or-lt-of-le g)
 
 pub held-none : (hz : ℕ) (ls hs : List ℕ) (i : ℕ) (r : Found) → length ls ≤ i → Held-from hz ls hs i r → Nothing ≡ r
 held-none hz ls hs i r h q = rw (bounded-past ls hs i h) at q

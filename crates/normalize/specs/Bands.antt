@@ -1,11 +1,12 @@
 -- The bands: bounds in Hz, both ends inside, and the name.
 use Prim.Native.Nat.{ℕ}
 use Prim.Native.String.{String}
-use mathlib.Core.Bool.{Bool}
+use mathlib.Core.Bool.{Bool, true}
 use mathlib.Core.List.{List, [], _∷_, map}
+use lib.Dec.{ltb}
 use lib.ListN.{length}
 use Rattle.text.specs.Ascii.{ascii}
-use Rattle.text.specs.Pick.{within}
+use Rattle.text.specs.Pick.{both, within}
 use Rattle.text.specs.Space.{trimmed}
 use Rattle.normalize.specs.Table.{firstFrom, named}
 use Rattle.normalize.specs.declared.Found.{Found}
@@ -54,6 +55,16 @@ unfoldable pub bounded : List ℕ → List ℕ → List Band
 bounded [] hs = []
 bounded (l ∷ ls) [] = []
 bounded (l ∷ ls) (h ∷ hs) = record { low = l; high = h; name = [] } ∷ bounded ls hs
+
+-- each upper bound is below every later lower bound
+abbrev pub below : ℕ → List ℕ → Bool
+below h [] = true
+below h (l ∷ ls) = both (ltb h l) (below h ls)
+
+abbrev pub apart : List ℕ → List ℕ → Bool
+apart [] ls = true
+apart (h ∷ hs) [] = true
+apart (h ∷ hs) (l ∷ ls) = both (below h ls) (apart hs ls)
 
 -- the band of a frequency
 unfoldable pub bandFor : ℕ → Found

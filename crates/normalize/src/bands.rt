@@ -1,11 +1,11 @@
 // The bands by frequency and by name. Bounds are those of ADIF's BAND, both ends inside, so that a dial on a band's edge is in
 // the band; 60m is the whole 5 MHz allocation, since only some countries have channels there.
 ghost use mathlib.Core.Path.{_≡_};
+ghost use mathlib.Core.Bool.{true};
 ghost use Prim.Native.Nat.{_≤_};
 ghost use lib.ListN.{length};
-ghost use Rattle.text.specs.Pick.{within};
 ghost use Rattle.normalize.specs.Table.{firstFrom, isFound};
-ghost use Rattle.normalize.specs.Bands.{bounded, holds, bandFor, bandNamed, everyBand};
+ghost use Rattle.normalize.specs.Bands.{apart, bounded, holds, bandFor, bandNamed, everyBand};
 ghost use Rattle.normalize.specs.Place.{bandPlace};
 use super::Found;
 use super::Place;
@@ -104,21 +104,18 @@ pub const NAMES: [[u8; 12]; 19] = [
 
 pub const LENS: [usize; 19] = [5, 4, 4, 3, 3, 3, 3, 3, 3, 3, 3, 3, 2, 2, 2, 5, 4, 4, 4];
 
-fn held(low: u64, high: u64, hz: u64) -> bool
-    ensures { λ r. ⌜ r ≡ within hz low high ⌝ }
-{
-    low <= hz && hz <= high
-}
-
-// The first band with low[k] <= hz <= high[k].
+// The first band with low[k] <= hz <= high[k]. Bands rise, so the first that ends at hz or above decides.
 fn band_in(low: &[u64], high: &[u64], hz: u64) -> Found
-    requires { ⌜ (length (now low) ≡ length (now high)) × (length (now low) ≤ 255) ⌝ }
+    requires { ⌜ (length (now low) ≡ length (now high)) × (length (now low) ≤ 255) × (apart (now high) (now low) ≡ true) ⌝ }
     ensures { λ r. ⌜ r ≡ firstFrom (holds hz) 0 (bounded (now (low .entry)) (now (high .entry))) ⌝ }
 {
     let mut i = 0;
     while i < low.len() {
-        if held(low[i], high[i], hz) {
-            return Found::At(i as u32);
+        if hz <= high[i] {
+            if low[i] <= hz {
+                return Found::At(i as u32);
+            }
+            return Found::Nothing;
         }
         i += 1;
     }

@@ -1,4 +1,4 @@
-use mathlib.Core.Path.{ap, _∙_}
+use mathlib.Core.Path.{refl, ap, _∙_}
 use Rattle.normalize.specs.Bands.{bands, bounded, bandFor}
 use Rattle.normalize.specs.Place.{bandPlace}
 use Rattle.normalize.specs.declared.Found.{Found}
@@ -13,7 +13,7 @@ slice-aggregate-band-in-2 : tie.Need-slice-aggregate-band-in-2
 slice-aggregate-band-in-2 c = search needs
 
 band-in-requires : tie.Need-band-in-requires
-band-in-requires c κs = search needs
+band-in-requires c κs = (refl, search needs, refl)
 
 entry-of-requires : tie.Need-entry-of-requires
 entry-of-requires c κs = search needs

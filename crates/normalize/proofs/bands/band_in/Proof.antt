@@ -4,7 +4,7 @@ use lib.ListN.{length}
 use borrow.Author.Needs.{needs}
 use Rattle.normalize.specs.Table.{firstFrom}
 use Rattle.normalize.specs.Bands.{holds, bounded}
-use Rattle.normalize.proofs.TableLaws.{Held-from, held-here, held-on, held-none}
+use Rattle.normalize.proofs.TableLaws.{Held-from, held-here, held-on, held-between, held-none}
 use Rattle.normalize.proofs.bands.band_in.Statement.{statement}
 use Rattle.normalize.proofs.bands.band_in.Tie as tie
 
@@ -17,26 +17,26 @@ abbrev μ-loop : tie.MeasureT-loop
 loop-holds : tie.Need-loop-holds Inv-loop μ-loop
 loop-holds c = (search needs, refl)
 
-mul-held : tie.Need-mul-held Inv-loop μ-loop
-mul-held c = search needs
+mul-if1 : tie.Need-mul-if1 Inv-loop μ-loop
+mul-if1 c = search needs
 
-shared-slice-read-held : tie.Need-shared-slice-read-held Inv-loop μ-loop
-shared-slice-read-held c = search needs
+shared-slice-read-if1 : tie.Need-shared-slice-read-if1 Inv-loop μ-loop
+shared-slice-read-if1 c = search needs
 
-mul-held-2 : tie.Need-mul-held-2 Inv-loop μ-loop
-mul-held-2 c = search needs
+mul-if2 : tie.Need-mul-if2 Inv-loop μ-loop
+mul-if2 c = search needs
 
-shared-slice-read-held-2 : tie.Need-shared-slice-read-held-2 Inv-loop μ-loop
-shared-slice-read-held-2 c = search needs
-
-held-requires : tie.Need-held-requires Inv-loop μ-loop
-held-requires c κs = search needs
+shared-slice-read-if2 : tie.Need-shared-slice-read-if2 Inv-loop μ-loop
+shared-slice-read-if2 c = search needs
 
 cast-t13 : tie.Need-cast-t13 Inv-loop μ-loop
 cast-t13 c = search needs
 
 returns : tie.Need-returns Inv-loop μ-loop
 returns c = search held-here
+
+returns-2 : tie.Need-returns-2 Inv-loop μ-loop
+returns-2 c = search held-between
 
 add-i : tie.Need-add-i Inv-loop μ-loop
 add-i c = search needs
@@ -47,8 +47,8 @@ loop-less c = search needs
 loop-again : tie.Need-loop-again Inv-loop μ-loop
 loop-again c = (search needs, search held-on)
 
-returns-2 : tie.Need-returns-2 Inv-loop μ-loop
-returns-2 c = search held-none
+returns-3 : tie.Need-returns-3 Inv-loop μ-loop
+returns-3 c = search held-none
 
 pub band-in-spec : {M : Type 1} → statement M
 band-in-spec =
@@ -57,14 +57,14 @@ band-in-spec =
     Inv-loop
     μ-loop
     loop-holds
-    mul-held
-    shared-slice-read-held
-    mul-held-2
-    shared-slice-read-held-2
-    held-requires
+    mul-if1
+    shared-slice-read-if1
+    mul-if2
+    shared-slice-read-if2
     cast-t13
     returns
+    returns-2
     add-i
     loop-less
     loop-again
-    returns-2)
+    returns-3)
