@@ -57,8 +57,8 @@ fn normalizing() -> Vec<Row> {
             "band of Hz",
             "1,000 dials",
             dials,
-            |all| sum(all, |&hz: &u64| ours::band_for_freq_hz(hz).is_some() as u64),
-            |all| sum(all, |&hz: &u64| theirs::band_for_freq_hz(hz).is_some() as u64),
+            |all| sum(all, |&hz: &u64| ours::band_for_freq_hz(hz).map_or(0, |band| band.name().len() as u64)),
+            |all| sum(all, |&hz: &u64| theirs::band_for_freq_hz(hz).map_or(0, |band| band.len() as u64)),
         ),
         Row::new(
             "band by name",

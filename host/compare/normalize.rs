@@ -181,22 +181,14 @@ fn modes(g: &mut Group) {
 
 /// The tables whole, by the wrapper.
 fn tables(g: &mut Group) {
-    let list = |names: &mut dyn Iterator<Item = ours::Name>| names.map(|n| n.to_string()).collect::<Vec<_>>();
-    g.same(0, list(&mut ours::known_bands().map(ours::Band::name)), band_names());
+    let strings = |names: &[&str]| names.iter().map(|name| name.to_string()).collect::<Vec<_>>();
+    g.same(0, ours::known_bands().map(ours::Band::name).collect::<Vec<_>>(), theirs::known_bands().collect());
     for (a, b) in ours::ModeClass::ALL.into_iter().zip(theirs::ModeClass::ALL) {
-        g.same(0, a.name().to_string(), b.as_str().to_string());
-        g.same(
-            0,
-            list(&mut ours::modes_in_class(a)),
-            theirs::modes_in_class(*b).iter().map(|m| m.to_string()).collect(),
-        );
+        g.same(0, a.name(), b.as_str());
+        g.same(0, ours::modes_in_class(a).to_vec(), strings(&theirs::modes_in_class(*b)));
     }
     for hz in [7_300_000, 7_300_001] {
-        g.same(
-            hz,
-            ours::band_for_freq_hz(hz).map(|band| band.name().to_string()),
-            theirs::band_for_freq_hz(hz).map(str::to_string),
-        );
+        g.same(hz, ours::band_for_freq_hz(hz).map(ours::Band::name), theirs::band_for_freq_hz(hz));
     }
     for class in [4, 5, u32::MAX] {
         g.same(class as u64, (sys::class_modes(class), sys::class_name(class)), Default::default());

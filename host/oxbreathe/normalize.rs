@@ -2,22 +2,23 @@
 
 use crate::Refusal;
 use crate::sys::{self, Place};
-use std::ops::Deref;
-
-/// A name of one of the library's tables, by value.
-#[derive(Clone, Copy, Debug, PartialEq, Eq)]
-pub struct Name(sys::Name);
-
-impl Deref for Name {
-    type Target = str;
-    fn deref(&self) -> &str {
-        // Safe: the library is proved to give a name of its tables, which are ASCII.
-        unsafe { std::str::from_utf8_unchecked(&self.0.bytes[..self.0.len]) }
-    }
-}
+use std::sync::LazyLock;
 
 const BAND: u32 = 3;
 const MODE: u32 = 4;
+
+/// The names of the library's tables, asked once.
+static BANDS: LazyLock<Vec<String>> = LazyLock::new(|| names(BAND));
+static MODES: LazyLock<Vec<String>> = LazyLock::new(|| names(MODE));
+static CLASSES: LazyLock<Vec<String>> = LazyLock::new(|| (0..4).map(|class| text(sys::class_name(class))).collect());
+
+fn text(name: sys::Name) -> String {
+    String::from_utf8_lossy(&name.bytes[..name.len]).into_owned()
+}
+
+fn names(kind: u32) -> Vec<String> {
+    (0..).map(|entry| text(sys::entry_name(kind, entry))).take_while(|name| !name.is_empty()).collect()
+}
 
 /// A band of the library's table.
 #[derive(Clone, Copy, Debug, PartialEq, Eq, PartialOrd, Ord, Hash)]
@@ -29,8 +30,8 @@ impl Band {
         (place.kind == BAND).then_some(Band(place.start))
     }
 
-    pub fn name(self) -> Name {
-        Name(sys::entry_name(BAND, self.0))
+    pub fn name(self) -> &'static str {
+        &BANDS[self.0 as usize]
     }
 }
 
@@ -74,11 +75,13 @@ fn spelled(place: Place, text: &[u8]) -> Option<String> {
         return None;
     }
     if place.kind == MODE {
-        return Some(Name(sys::entry_name(MODE, place.start)).to_string());
+        return Some(MODES[place.start as usize].clone());
     }
     let part = &text[place.start as usize..][..place.len as usize];
-    // the text was accepted, and the library is proved to give a part of it that starts and ends between characters
-    Some(String::from_utf8_lossy(part).to_ascii_uppercase())
+    // Safe: the text was accepted as UTF-8, and trimming it cuts between characters.
+    let mut part = unsafe { std::str::from_utf8_unchecked(part) }.to_string();
+    part.make_ascii_uppercase();
+    Some(part)
 }
 
 /// A coarse family of modes.
@@ -99,8 +102,8 @@ impl ModeClass {
         Ok(r.present.then(|| ModeClass::ALL[r.class as usize]))
     }
 
-    pub fn name(self) -> Name {
-        Name(sys::class_name(self as u32))
+    pub fn name(self) -> &'static str {
+        &CLASSES[self as usize]
     }
 
     /// The class that the text names.
@@ -115,7 +118,7 @@ pub fn mode_class(text: &[u8]) -> Result<Option<ModeClass>, Refusal> {
 }
 
 /// The modes in a class.
-pub fn modes_in_class(class: ModeClass) -> impl Iterator<Item = Name> {
+pub fn modes_in_class(class: ModeClass) -> &'static [String] {
     let all = sys::class_modes(class as u32);
-    (all.first..all.first + all.count).map(|k| Name(sys::entry_name(MODE, k)))
+    &MODES[all.first as usize..][..all.count as usize]
 }

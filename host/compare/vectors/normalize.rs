@@ -22,12 +22,12 @@ const OPERATIONS: &[Operation] = &[
     Operation {
         name: "frequency",
         theirs: theirs::frequency,
-        ours: |a| shown(ours::band_for_freq_hz(a[0].number()).map(Band::name).as_deref()),
+        ours: |a| shown(ours::band_for_freq_hz(a[0].number()).map(Band::name)),
     },
     Operation {
         name: "band",
         theirs: theirs::band,
-        ours: |a| told(ours::canonical_band(a[0].text()), |band| shown(band.map(Band::name).as_deref())),
+        ours: |a| told(ours::canonical_band(a[0].text()), |band| shown(band.map(Band::name))),
     },
     Operation {
         name: "mode",
@@ -40,12 +40,12 @@ const OPERATIONS: &[Operation] = &[
     Operation {
         name: "class",
         theirs: theirs::class,
-        ours: |a| told(ours::mode_class(a[0].text()), |class| shown(class.map(ModeClass::name).as_deref())),
+        ours: |a| told(ours::mode_class(a[0].text()), |class| shown(class.map(ModeClass::name))),
     },
     Operation {
         name: "class_named",
         theirs: theirs::class_named,
-        ours: |a| told(ModeClass::parse(a[0].text()), |class| shown(class.map(ModeClass::name).as_deref())),
+        ours: |a| told(ModeClass::parse(a[0].text()), |class| shown(class.map(ModeClass::name))),
     },
 ];
 
