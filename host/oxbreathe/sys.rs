@@ -121,6 +121,16 @@ pub struct Classified {
     pub class: u32,
 }
 
+/// The hertz that a text of megahertz says, or none.
+#[repr(C)]
+#[derive(Clone, Copy, Debug, Default, PartialEq, Eq)]
+pub struct Frequency {
+    pub refusal: u32,
+    pub place: usize,
+    pub present: bool,
+    pub hz: u64,
+}
+
 mod c {
     use super::*;
 
@@ -152,6 +162,8 @@ mod c {
         pub fn ox_class_named(text: *const u8, length: usize) -> Classified;
         pub fn ox_class_modes(class: u32) -> Span;
         pub fn ox_class_name(class: u32) -> Name;
+        pub fn ox_mhz_to_hz(text: *const u8, length: usize) -> Frequency;
+        pub fn ox_hz_to_mhz(hz: u64, out: *mut u8, length: usize) -> Written;
     }
 }
 
@@ -216,4 +228,10 @@ pub fn class_modes(class: u32) -> Span {
 }
 pub fn class_name(class: u32) -> Name {
     unsafe { c::ox_class_name(class) }
+}
+pub fn mhz_to_hz(text: &[u8]) -> Frequency {
+    unsafe { c::ox_mhz_to_hz(text.as_ptr(), text.len()) }
+}
+pub fn hz_to_mhz(hz: u64, out: &mut [u8]) -> Written {
+    unsafe { c::ox_hz_to_mhz(hz, out.as_mut_ptr(), out.len()) }
 }

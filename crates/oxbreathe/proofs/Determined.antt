@@ -42,6 +42,10 @@ use Rattle.oxbreathe.proofs.normalizing.ox_class_modes.Reads as ox-clas
 use Rattle.oxbreathe.proofs.normalizing.ox_class_modes.Kinds as ox-class-modes-kinds
 use Rattle.oxbreathe.proofs.normalizing.ox_class_name.Reads as ox-class-name
 use Rattle.oxbreathe.proofs.normalizing.ox_class_name.Kinds as ox-class-name-kinds
+use Rattle.oxbreathe.proofs.frequencies.ox_mhz_to_hz.Reads as ox-mhz-to-hz
+use Rattle.oxbreathe.proofs.frequencies.ox_mhz_to_hz.Kinds as ox-mhz-to-hz-kinds
+use Rattle.oxbreathe.proofs.frequencies.ox_hz_to_mhz.Reads as ox-hz-to-mhz
+use Rattle.oxbreathe.proofs.frequencies.ox_hz_to_mhz.Kinds as ox-hz-to-mhz-kinds
 
 ox-text-check-once : Once 1 ox-text-check-kinds.ps ox-text-check-kinds.r ox-text-check.Post
 ox-text-check-once κs a x y d e p q = p ∙ sym q
@@ -103,3 +107,9 @@ ox-class-name-once κs a x y d e p q = p ∙ sym q
 -- the answer and the output
 digits-once : OnceWith 1 digits-kinds.ps digits-kinds.r (λ κs d. now (d .1 .0)) digits.Post
 digits-once κs a x y d e p q = (p .answer ∙ sym (q .answer), p .output ∙ sym (q .output))
+
+ox-mhz-to-hz-once : Once 1 ox-mhz-to-hz-kinds.ps ox-mhz-to-hz-kinds.r ox-mhz-to-hz.Post
+ox-mhz-to-hz-once κs a x y d e p q = p ∙ sym q
+
+ox-hz-to-mhz-once : OnceWith 1 ox-hz-to-mhz-kinds.ps ox-hz-to-mhz-kinds.r (λ κs d. now (d .1 .0)) ox-hz-to-mhz.Post
+ox-hz-to-mhz-once κs a x y d e p q = (p .answer ∙ sym (q .answer), p .output ∙ sym (q .output))

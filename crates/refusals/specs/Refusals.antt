@@ -6,7 +6,7 @@ use lib.Dec.{ltb}
 use Rattle.text.specs.Pick.{pick}
 use Rattle.text.specs.Utf8.{validUpTo}
 use Rattle.refusals.specs.declared.Refusal.{Refusal}
-use Rattle.refusals.specs.declared.Refusal.the-variants.{TooLong, NotUtf8, ShortOutput}
+use Rattle.refusals.specs.declared.Refusal.the-variants.{TooLong, NotUtf8, ShortOutput, FrequencyTooHigh, InexactFrequency}
 use Rattle.refusals.specs.declared.Verdict.{Verdict}
 use Rattle.refusals.specs.declared.Verdict.the-variants.{Accepted, Refused}
 
@@ -14,11 +14,15 @@ abbrev pub numberOf : Refusal → ℕ
 numberOf TooLong = 1
 numberOf (NotUtf8 at) = 2
 numberOf ShortOutput = 13
+numberOf FrequencyTooHigh = 14
+numberOf InexactFrequency = 15
 
 abbrev pub placeOf : Refusal → ℕ
 placeOf TooLong = 0
 placeOf (NotUtf8 at) = at
 placeOf ShortOutput = 0
+placeOf FrequencyTooHigh = 0
+placeOf InexactFrequency = 0
 
 -- 1 above 16,777,216 bytes, then 2 where it is not UTF-8
 unfoldable pub ofText : List ℕ → Verdict

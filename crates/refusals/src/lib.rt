@@ -10,6 +10,8 @@ pub enum Refusal {
     // with the place of the first bad byte
     NotUtf8(usize),
     ShortOutput,
+    FrequencyTooHigh,
+    InexactFrequency,
 }
 
 pub enum Verdict {
@@ -24,6 +26,8 @@ pub fn number(r: Refusal) -> u32
         Refusal::TooLong => 1,
         Refusal::NotUtf8(_) => 2,
         Refusal::ShortOutput => 13,
+        Refusal::FrequencyTooHigh => 14,
+        Refusal::InexactFrequency => 15,
     }
 }
 
@@ -35,6 +39,8 @@ pub fn place(r: Refusal) -> usize
         Refusal::TooLong => 0,
         Refusal::NotUtf8(at) => at,
         Refusal::ShortOutput => 0,
+        Refusal::FrequencyTooHigh => 0,
+        Refusal::InexactFrequency => 0,
     }
 }
 

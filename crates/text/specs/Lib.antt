@@ -6,3 +6,4 @@ pub mod Find
 pub mod Utf8
 pub mod Blocks
 pub mod Space
+pub mod Examples
