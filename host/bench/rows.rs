@@ -39,7 +39,50 @@ pub fn all() -> Vec<Row> {
     ];
     #[cfg(original)]
     rows.extend(frequencies());
+    #[cfg(original)]
+    rows.extend(normalizing());
     rows
+}
+
+/// Bands and modes, beside the original.
+#[cfg(original)]
+fn normalizing() -> Vec<Row> {
+    use original::normalize as theirs;
+    use oxbreathe::normalize as ours;
+    // from 100 kHz to 1.4 GHz, and the names as operators write them
+    let dials = kept((0..1_000).map(|i| 100_000 + i * i * 1_400).collect::<Vec<u64>>());
+    let bands = kept("40m 20M 2m 70cm 160m 6M 23cm 10m 40M 5m".split(' ').cycle().take(1_000).collect::<Vec<&str>>());
+    let modes =
+        kept("SSB USB FT8 cw FT4 RTTY psk31 LSB MFSK DIG".split(' ').cycle().take(1_000).collect::<Vec<&str>>());
+    vec![
+        Row::new(
+            "band of Hz",
+            "1,000 dials",
+            dials,
+            |all| sum(all, |&hz: &u64| ours::band_for_freq_hz(hz).map_or(0, |band| band.name().len() as u64)),
+            |all| sum(all, |&hz: &u64| theirs::band_for_freq_hz(hz).map_or(0, |band| band.len() as u64)),
+        ),
+        Row::new(
+            "band by name",
+            "1,000 names",
+            bands,
+            |all| sum(all, |t: &&str| ours::canonical_band(t.as_bytes()).is_ok_and(|band| band.is_some()) as u64),
+            |all| {
+                sum(all, |t: &&str| from_utf8(t.as_bytes()).is_ok_and(|t| theirs::canonical_band(t).is_some()) as u64)
+            },
+        ),
+        Row::new(
+            "mode",
+            "1,000 modes",
+            modes,
+            |all| sum(all, |t: &&str| ours::normalize_mode(t.as_bytes(), None).map_or(0, |(m, _)| m.len() as u64)),
+            |all| {
+                sum(all, |t: &&str| {
+                    from_utf8(t.as_bytes()).map_or(0, |t| theirs::normalize_mode(t, None).0.len() as u64)
+                })
+            },
+        ),
+    ]
 }
 
 /// Frequencies of the bands from 160 m to 2 m, in steps of 100 Hz and of 1 Hz.

@@ -6,6 +6,8 @@
 mod frequency;
 mod generate;
 mod harness;
+#[cfg(original)]
+mod normalize;
 mod notation;
 #[cfg(original)]
 mod original;
@@ -38,6 +40,8 @@ fn compare(mut run: Run, folder: &Path) -> ExitCode {
     text::run(&mut run);
     frequency::run(&mut run);
     vectors::run(&mut run, folder);
+    #[cfg(original)]
+    normalize::run(&mut run);
     #[cfg(original)]
     original::run(&mut run);
     #[cfg(not(original))]

@@ -1,5 +1,6 @@
 //! What Rust's std says of texts and frequencies: the side that the library is compared with, and that the vectors record.
 
+use oxbreathe::LONGEST;
 use std::cmp::Ordering;
 
 /// The places of the first byte kept and of the first one after; of a blank text both are the length.
@@ -33,6 +34,20 @@ pub fn find(text: &[u8], from: usize, byte: u8) -> usize {
 /// How far the text is UTF-8.
 pub fn utf8(text: &[u8]) -> usize {
     std::str::from_utf8(text).map_or_else(|e| e.valid_up_to(), str::len)
+}
+
+/// The texts as `str`, or the refusal that every call gives before it looks further.
+pub fn read<'a, const N: usize>(texts: [&'a [u8]; N]) -> Result<[&'a str; N], (u32, usize)> {
+    if texts.iter().any(|t| t.len() > LONGEST) {
+        return Err((1, 0));
+    }
+    let mut before = 0;
+    let mut read = [""; N];
+    for (slot, text) in read.iter_mut().zip(texts) {
+        *slot = std::str::from_utf8(text).map_err(|e| (2, before + e.valid_up_to()))?;
+        before += text.len();
+    }
+    Ok(read)
 }
 
 /// The hertz that a text of megahertz says to std's f64: none where it is no number, or one below zero.

@@ -12,6 +12,7 @@
 //! ```
 
 pub mod frequency;
+pub mod normalize;
 mod refusal;
 pub mod sys;
 pub mod text;

@@ -1,4 +1,5 @@
 pub mod TextAnswers
 pub mod WriteAnswers
+pub mod NormalizingAnswers
 pub mod FrequencyAnswers
 pub mod Determined

@@ -1,3 +1,4 @@
 pub mod Texts
 pub mod Frequencies
 pub mod Writing
+pub mod Normalizing

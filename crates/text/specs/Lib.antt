@@ -1,4 +1,5 @@
 pub mod Pick
+pub mod Ascii
 pub mod Walk
 pub mod Run
 pub mod Find

@@ -2,6 +2,7 @@
 //! group, and by a Rattle program. An area is one file of vectors; a new one is a module with an `AREA`, named below.
 
 mod frequency;
+mod normalize;
 mod text;
 
 use crate::generate::Random;
@@ -12,7 +13,7 @@ use std::collections::HashSet;
 use std::path::Path;
 use std::process::ExitCode;
 
-const AREAS: [Area; 2] = [text::AREA, frequency::AREA];
+const AREAS: [Area; 3] = [text::AREA, frequency::AREA, normalize::AREA];
 
 struct Area {
     /// The file's name without `.txt`.
