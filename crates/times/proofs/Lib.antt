@@ -1,3 +1,5 @@
 pub mod YearLaws
 pub mod MonthLaws
 pub mod MomentLaws
+pub mod Rising
+pub mod Determined
