@@ -8,6 +8,8 @@ ghost use Rattle.times.specs.Moments.{dateOf, clockOf, isClock, momentAt
 ghost use Rattle.times.specs.Bounds.{Below};
 use decimal::Unsigned;
 
+pub mod window;
+
 // Seconds since the first day of year 0, or no moment.
 pub enum Moment {
     At(u64),
