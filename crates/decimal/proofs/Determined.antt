@@ -1,6 +1,8 @@
 -- Each public call's promise is met by one answer. Assumes nothing.
 use mathlib.Core.Path.{sym, _∙_}
 use Rattle.text.proofs.Once.{Once}
+use Rattle.decimal.proofs.parse_digits.Reads as parse-digits
+use Rattle.decimal.proofs.parse_digits.Kinds as parse-digits-kinds
 use Rattle.decimal.proofs.parse_unsigned.Reads as parse-unsigned
 use Rattle.decimal.proofs.parse_unsigned.Kinds as parse-unsigned-kinds
 use Rattle.decimal.proofs.parse_signed.Reads as parse-signed
@@ -11,3 +13,6 @@ parse-unsigned-once κs a x y d e p q = p ∙ sym q
 
 parse-signed-once : Once 1 parse-signed-kinds.ps parse-signed-kinds.r parse-signed.Post
 parse-signed-once κs a x y d e p q = p ∙ sym q
+
+parse-digits-once : Once 1 parse-digits-kinds.ps parse-digits-kinds.r parse-digits.Post
+parse-digits-once κs a x y d e p q = p ∙ sym q

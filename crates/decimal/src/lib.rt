@@ -14,8 +14,8 @@ pub enum Signed {
     Bad,
 }
 
-// Digits, at least one.
-fn digits(s: &[u8]) -> Unsigned
+// Digits alone, at least one.
+pub fn parse_digits(s: &[u8]) -> Unsigned
     ensures { λ r. ⌜ r ≡ digitsOf (now (s .entry)) ⌝ }
 {
     if s.len() == 0 {
@@ -46,9 +46,9 @@ pub fn parse_unsigned(s: &[u8]) -> Unsigned
     ensures { λ r. ⌜ r ≡ unsignedOf (now (s .entry)) ⌝ }
 {
     if text::byte(s, 0) == 0x2B {
-        digits(&s[1..])
+        parse_digits(&s[1..])
     } else {
-        digits(s)
+        parse_digits(s)
     }
 }
 
@@ -93,7 +93,7 @@ pub fn parse_signed(s: &[u8]) -> Signed
     ensures { λ r. ⌜ r ≡ signedOf (now (s .entry)) ⌝ }
 {
     if text::byte(s, 0) == 0x2D {
-        below_zero(digits(&s[1..]))
+        below_zero(parse_digits(&s[1..]))
     } else {
         above_zero(parse_unsigned(s))
     }

@@ -6,17 +6,17 @@ use Rattle.decimal.proofs.parse_signed.Tie as tie
 byte-requires : tie.Need-byte-requires
 byte-requires c κs = search needs
 
-sub-digits : tie.Need-sub-digits
-sub-digits c = search minus-there
+sub-parse-digits : tie.Need-sub-parse-digits
+sub-parse-digits c = search minus-there
 
-part-digits-start : tie.Need-part-digits-start
-part-digits-start c = search minus-there
+part-parse-digits-start : tie.Need-part-parse-digits-start
+part-parse-digits-start c = search minus-there
 
-part-digits-end : tie.Need-part-digits-end
-part-digits-end c = search needs
+part-parse-digits-end : tie.Need-part-parse-digits-end
+part-parse-digits-end c = search needs
 
-digits-requires : tie.Need-digits-requires
-digits-requires c κs = search needs
+parse-digits-requires : tie.Need-parse-digits-requires
+parse-digits-requires c κs = search needs
 
 below-zero-requires : tie.Need-below-zero-requires
 below-zero-requires c κs = search needs
@@ -38,10 +38,10 @@ parse-signed-spec =
     tie.close
     (tie.spec
     byte-requires
-    sub-digits
-    part-digits-start
-    part-digits-end
-    digits-requires
+    sub-parse-digits
+    part-parse-digits-start
+    part-parse-digits-end
+    parse-digits-requires
     below-zero-requires
     parse-unsigned-requires
     above-zero-requires

@@ -6,20 +6,20 @@ use Rattle.decimal.proofs.parse_unsigned.Tie as tie
 byte-requires : tie.Need-byte-requires
 byte-requires c κs = search needs
 
-sub-digits : tie.Need-sub-digits
-sub-digits c = search plus-there
+sub-parse-digits : tie.Need-sub-parse-digits
+sub-parse-digits c = search plus-there
 
-part-digits-start : tie.Need-part-digits-start
-part-digits-start c = search plus-there
+part-parse-digits-start : tie.Need-part-parse-digits-start
+part-parse-digits-start c = search plus-there
 
-part-digits-end : tie.Need-part-digits-end
-part-digits-end c = search needs
+part-parse-digits-end : tie.Need-part-parse-digits-end
+part-parse-digits-end c = search needs
 
-digits-requires : tie.Need-digits-requires
-digits-requires c κs = search needs
+parse-digits-requires : tie.Need-parse-digits-requires
+parse-digits-requires c κs = search needs
 
-digits-requires-2 : tie.Need-digits-requires-2
-digits-requires-2 c κs = search needs
+parse-digits-requires-2 : tie.Need-parse-digits-requires-2
+parse-digits-requires-2 c κs = search needs
 
 returns : tie.Need-returns
 returns c = search with-plus
@@ -32,10 +32,10 @@ parse-unsigned-spec =
     tie.close
     (tie.spec
     byte-requires
-    sub-digits
-    part-digits-start
-    part-digits-end
-    digits-requires
-    digits-requires-2
+    sub-parse-digits
+    part-parse-digits-start
+    part-parse-digits-end
+    parse-digits-requires
+    parse-digits-requires-2
     returns
     returns-2)

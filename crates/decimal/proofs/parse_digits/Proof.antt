@@ -4,8 +4,8 @@ use lib.ListN.{length, drop}
 use borrow.Author.Needs.{needs}
 use Rattle.decimal.specs.Decimal.{digitsAfter, digitsOf}
 use Rattle.decimal.proofs.DecimalLaws.{none, some, low, high, more, over, done}
-use Rattle.decimal.proofs.digits.Statement.{statement}
-use Rattle.decimal.proofs.digits.Tie as tie
+use Rattle.decimal.proofs.parse_digits.Statement.{statement}
+use Rattle.decimal.proofs.parse_digits.Tie as tie
 
 abbrev Inv-loop : tie.InvT-loop
 Inv-loop s n₀ i₀ n i = (i ≤ length s) × ((n < 2 ^ 64) × (digitsAfter n (drop i s) ≡ digitsOf s))
@@ -55,8 +55,8 @@ loop-again c = (search needs, (search needs, search more))
 returns-5 : tie.Need-returns-5 Inv-loop μ-loop
 returns-5 c = search done
 
-pub digits-spec : {M : Type 1} → statement M
-digits-spec =
+pub parse-digits-spec : {M : Type 1} → statement M
+parse-digits-spec =
     tie.close
     (tie.spec
     Inv-loop

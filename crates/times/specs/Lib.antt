@@ -1,0 +1,5 @@
+pub mod Calendar
+pub mod Moments
+pub mod Bounds
+pub mod Window
+pub mod Examples
