@@ -21,7 +21,7 @@ use Rattle.tags.proofs.AheadLaws.{ahead}
 use Rattle.adif.specs.Records.{Item, eoh, eor, field, Outcome, records, refused, Turn, on, no, then, act, finish, Ending, whole, fault, meaning}
 use Rattle.adif.specs.Grammar
 use Rattle.adif.specs.Grammar.{Why, plain, Items, Without, Cut, all, Tagged, Sized, Says, over, eof-tag, eoh-tag, eor-tag, field-tag, unterminated, missing, bad, truncated, torn}
-use Rattle.adif.specs.Reading.{Row, Read, part, rowName, rowValue, rows, State, onto, readBy, readRun, readTags}
+use Rattle.adif.specs.Reading.{Row, RowsRead, part, rowName, rowValue, rows, State, onto, readBy, readRun, readTags}
 use Rattle.adif.specs.Told.{fieldOf, toldBy}
 use Rattle.adif.proofs.TagSays
 use Rattle.adif.proofs.Mapped.{mapTurn, mapOutcome, mapItem, Same, then-map, finish-map, act-map}
@@ -30,7 +30,7 @@ onto-on : (n at next : ℕ) → at < next → next ≤ n → (o : Turn Row Refus
 onto-on n at next p q (on h d) = (p, q)
 onto-on n at next p q (no w) = tt
 
-follow-onto : (k : ℕ → State → Read) (next : ℕ) (o : Turn Row Refusal) → follow k (onto next o) ≡ then o (λ h d. k next (h, d))
+follow-onto : (k : ℕ → State → RowsRead) (next : ℕ) (o : Turn Row Refusal) → follow k (onto next o) ≡ then o (λ h d. k next (h, d))
 follow-onto k next (on h d) = refl
 follow-onto k next (no w) = refl
 
@@ -44,9 +44,12 @@ module _ (s : List ℕ) (room : ℕ) where
   by-on at hand done (Field a k v n) p = onto-on (length s) at (v + n) (p .0) (p .1) (act (rows s) room hand done (field (a ∷ k ∷ v ∷ n ∷ [])))
   by-on at hand done (Refused why) p = tt
 
+  pub forward : (at : ℕ) (st : State) → Onward (length s) at (readBy s room (st .0) (st .1) (tagAt s at))
+  forward at st = by-on at (st .0) (st .1) (tagAt s at) (ahead s at)
+
   pub turn : (at : ℕ) (st : State) (t : Tag) → tagAt s at ≡ t → readRun s room at st ≡ follow (readRun s room) (readBy s room (st .0) (st .1) t)
   turn at st t e =
-      run-step (λ a x. readBy s room (x .0) (x .1) (tagAt s a)) (records []) (length s) (λ a x. by-on a (x .0) (x .1) (tagAt s a) (ahead s a)) at st
+      run-step (λ a x. readBy s room (x .0) (x .1) (tagAt s a)) (records []) (length s) forward at st
       ∙ rw e
 
 module _ (s : List ℕ) (room : ℕ) (u : Utf8 s) where

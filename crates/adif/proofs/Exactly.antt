@@ -20,7 +20,7 @@ use Rattle.refusals.specs.declared.Verdict.the-variants.{Accepted, Refused}
 use Rattle.adif.specs.Records.{Item, Outcome, records, refused, Turn, on, no, then, total, act, Ending, whole, fault, meaning, plainly}
 use Rattle.adif.specs.Grammar.{Field, Why, plain, Items, Says}
 use Rattle.adif.specs.Limits.{Names256, AllAscending}
-use Rattle.adif.specs.Reading.{Row, Read, accepted, readTags, readText}
+use Rattle.adif.specs.Reading.{Row, RowsRead, accepted, readTags, readText}
 use Rattle.adif.specs.Told.{fieldOf, toldBy}
 use Rattle.adif.proofs.Mapped.{mapOutcome}
 use Rattle.adif.proofs.Agree.{reading-is}
@@ -68,6 +68,15 @@ module _ (s : List ℕ) where
       by false true q p = absurd (no-text (NotUtf8 (validUpTo s)) p)
       by false false q p = omega (arith, ltb-false (validUpTo s) (length s) q, short)
 
+  pub fit-length : ofText s ≡ Accepted → length s ≤ 16777216
+  unfolding ofText
+  fit-length e = by (ltb 16777216 (length s)) refl e
+    where
+      by : (a : Bool) → ltb 16777216 (length s) ≡ a → pick a (Refused TooLong) (pick (ltb (validUpTo s) (length s)) (Refused (NotUtf8 (validUpTo s))) Accepted) ≡ Accepted
+          → length s ≤ 16777216
+      by true q p = absurd (let z : _≡_ {A = ℕ} 0 1 = cc in omega arith)
+      by false q p = ltb-false 16777216 (length s) q
+
   module _ (room : ℕ) where
     -- what is accepted was neither too long nor anything but UTF-8
     read-text : (rows : List (List Row)) → readText s room ≡ records rows → (ofText s ≡ Accepted) × (readTags s room ≡ records rows)
@@ -92,7 +101,7 @@ module _ (s : List ℕ) where
         by-end u p is whole w = (is, w, plain-reading plain room (map (map (fieldOf s)) rows) is [] [] (sym (reading-is s room u w) ∙ rw p))
         by-end u p is (fault v) w = absurd (stuck room v (map (map (fieldOf s)) rows) [] [] is (sym (reading-is s room u w) ∙ rw p))
 
-    back : (r : Read) (rs : List (List Field)) → mapOutcome (fieldOf s) (toldBy s) r ≡ records rs
+    back : (r : RowsRead) (rs : List (List Field)) → mapOutcome (fieldOf s) (toldBy s) r ≡ records rs
         → (rows : List (List Row)) × (r ≡ records rows) × (map (map (fieldOf s)) rows ≡ rs)
     back (records rows) rs p = (rows, refl, cc)
     back (refused w) rs p = absurd (never (toldBy s w) rs _ refl p)

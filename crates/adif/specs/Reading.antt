@@ -28,8 +28,8 @@ rowName s r = capitals (part s (getD r 0 0) (getD r 1 0))
 unfoldable pub rowValue : List ℕ → Row → List ℕ
 rowValue s r = part s (getD r 2 0) (getD r 3 0)
 
-abbrev pub Read : Type 0
-Read = Outcome Row Refusal
+abbrev pub RowsRead : Type 0
+RowsRead = Outcome Row Refusal
 
 abbrev pub rows : List ℕ → Fields Row Refusal
 rows s = record { name = rowName s; many-names = ManyNames; many-records = ManyRecords; few-rows = FewRows }
@@ -38,12 +38,12 @@ rows s = record { name = rowName s; many-names = ManyNames; many-records = ManyR
 abbrev pub State : Type 0
 State = List Row × List (List Row)
 
-abbrev pub onto : ℕ → Turn Row Refusal → Next State Read
+abbrev pub onto : ℕ → Turn Row Refusal → Next State RowsRead
 onto next (on hand done) = go next (hand, done)
 onto next (no w) = stop (refused w)
 
 -- what the next tag makes of them
-abbrev pub readBy : List ℕ → ℕ → List Row → List (List Row) → Tag → Next State Read
+abbrev pub readBy : List ℕ → ℕ → List Row → List (List Row) → Tag → Next State RowsRead
 readBy s room hand done End = stop (finish (rows s) room hand done)
 readBy s room hand done Eof = stop (finish (rows s) room hand done)
 readBy s room hand done (Eoh next) = onto next (act (rows s) room hand done eoh)
@@ -51,17 +51,17 @@ readBy s room hand done (Eor next) = onto next (act (rows s) room hand done eor)
 readBy s room hand done (Field a k v n) = onto (v + n) (act (rows s) room hand done (field (a ∷ k ∷ v ∷ n ∷ [])))
 readBy s room hand done (Refused w) = stop (refused w)
 
-abbrev pub readRun : List ℕ → ℕ → ℕ → State → Read
+abbrev pub readRun : List ℕ → ℕ → ℕ → State → RowsRead
 readRun s room = run (λ at st. readBy s room (st .0) (st .1) (tagAt s at)) (records []) (length s)
 
 -- the tags of the whole text, where the lent table has `room` rows
-unfoldable pub readTags : List ℕ → ℕ → Read
+unfoldable pub readTags : List ℕ → ℕ → RowsRead
 readTags s room = readRun s room 0 ([], [])
 
-abbrev pub accepted : Verdict → Read → Read
+abbrev pub accepted : Verdict → RowsRead → RowsRead
 accepted Accepted r = r
 accepted (RefusedText w) r = refused w
 
 -- 1 and 2, and then the tags
-unfoldable pub readText : List ℕ → ℕ → Read
+unfoldable pub readText : List ℕ → ℕ → RowsRead
 readText s room = accepted (ofText s) (readTags s room)

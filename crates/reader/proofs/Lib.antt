@@ -1,0 +1,5 @@
+pub mod LaidLaws
+pub mod CloseLaws
+pub mod TurnLaws
+pub mod GoingLaws
+pub mod ReadLaws
