@@ -3,3 +3,4 @@ pub mod CloseLaws
 pub mod TurnLaws
 pub mod GoingLaws
 pub mod ReadLaws
+pub mod Determined
