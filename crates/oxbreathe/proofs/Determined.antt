@@ -22,6 +22,8 @@ use Rattle.oxbreathe.proofs.texts.ox_text_unsigned.Reads as ox-text-uns
 use Rattle.oxbreathe.proofs.texts.ox_text_unsigned.Kinds as ox-text-unsigned-kinds
 use Rattle.oxbreathe.proofs.texts.ox_text_signed.Reads as ox-text-signed
 use Rattle.oxbreathe.proofs.texts.ox_text_signed.Kinds as ox-text-signed-kinds
+use Rattle.oxbreathe.proofs.reading.ox_read.Reads as ox-read
+use Rattle.oxbreathe.proofs.reading.ox_read.Kinds as ox-read-kinds
 
 ox-text-check-once : Once 1 ox-text-check-kinds.ps ox-text-check-kinds.r ox-text-check.Post
 ox-text-check-once κs a x y d e p q = p ∙ sym q
@@ -53,3 +55,7 @@ ox-text-signed-once κs a x y d e p q = p ∙ sym q
 -- the answer and the output
 digits-once : OnceWith 1 digits-kinds.ps digits-kinds.r (λ κs d. now (d .1 .0)) digits.Post
 digits-once κs a x y d e p q = (p .answer ∙ sym (q .answer), p .output ∙ sym (q .output))
+
+-- the answer and the table
+ox-read-once : OnceWith 2 ox-read-kinds.ps ox-read-kinds.r (λ κs d. now (d .1 .0)) ox-read.Post
+ox-read-once κs a x y d e p q = (p .0 ∙ sym (q .0), p .1 ∙ sym (q .1))

@@ -1,3 +1,4 @@
 pub mod TextAnswers
 pub mod WriteAnswers
+pub mod ReadAnswers
 pub mod Determined

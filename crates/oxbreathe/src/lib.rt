@@ -1,2 +1,3 @@
 // The calls that C and Rust link, and nothing else: each asks nothing of its caller, tests its texts, and answers with numbers.
+pub mod reading;
 pub mod texts;
