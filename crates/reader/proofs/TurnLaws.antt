@@ -73,9 +73,9 @@ module _ (text : List ℕ) (at : ℕ) (hand : List Row) (count used : ℕ) (hand
     unfolding Turns Finishes
     turn-eof h was done S = rw (← e, h) (_, refl, rw (finish-any text (length before / 5) hand done) (F was done S))
 
-  pub turn-eoh : (next : ℕ) → tag ≡ the-variants.Eoh next → Turns text at hand count used hands before before (On next 0 count used)
+  pub turn-eoh : (next : ℕ) (r : Turn) → tag ≡ the-variants.Eoh next → r ≡ ofKept (Used 0) next count used → Turns text at hand count used hands before before r
   unfolding Turns
-  turn-eoh next h was done S = rw (← e, h) (done, refl, omega arith, S)
+  turn-eoh next r h q was done S = rw (← e, h, q) (done, refl, omega arith, S)
 
   pub turn-refused : (w : Refusal) → tag ≡ the-variants.Refused w → Turns text at hand count used hands before before (Over (Refused w))
   unfolding Turns

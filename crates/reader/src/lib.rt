@@ -130,12 +130,7 @@ fn next_turn(
     match tag {
         Tag::End => Turn::Over(finish(table, hand, held, records, rows)),
         Tag::Eof => Turn::Over(finish(table, hand, held, records, rows)),
-        Tag::Eoh(next) => Turn::On {
-            at: next,
-            held: 0,
-            records: records,
-            rows: rows,
-        },
+        Tag::Eoh(next) => of_kept(Kept::Used(0), next, records, rows),
         Tag::Eor(next) => of_closed(close(table, hand, held, records, rows), next),
         Tag::Field {
             name,

@@ -21,6 +21,9 @@ finish-requires-2 c κs = search needs
 enum-known-tag : tie.Need-enum-known-tag
 enum-known-tag c = search needs
 
+of-kept-requires : tie.Need-of-kept-requires
+of-kept-requires c κs = search needs
+
 enum-known-tag-2 : tie.Need-enum-known-tag-2
 enum-known-tag-2 c = search needs
 
@@ -33,17 +36,17 @@ of-closed-requires c κs = search needs
 enum-known-tag-3 : tie.Need-enum-known-tag-3
 enum-known-tag-3 c = search needs
 
-cast-t34 : tie.Need-cast-t34
-cast-t34 c = search name-fits
-
 cast-t35 : tie.Need-cast-t35
-cast-t35 c = search name-length-fits
+cast-t35 c = search name-fits
 
 cast-t36 : tie.Need-cast-t36
-cast-t36 c = search value-fits
+cast-t36 c = search name-length-fits
 
 cast-t37 : tie.Need-cast-t37
-cast-t37 c = search value-length-fits
+cast-t37 c = search value-fits
+
+cast-t38 : tie.Need-cast-t38
+cast-t38 c = search value-length-fits
 
 with-field-requires : tie.Need-with-field-requires
 with-field-requires c κs = search needs
@@ -51,8 +54,8 @@ with-field-requires c κs = search needs
 add-of-kept : tie.Need-add-of-kept
 add-of-kept c = search end-fits
 
-of-kept-requires : tie.Need-of-kept-requires
-of-kept-requires c κs = search needs
+of-kept-requires-2 : tie.Need-of-kept-requires-2
+of-kept-requires-2 c κs = search needs
 
 enum-known-tag-4 : tie.Need-enum-known-tag-4
 enum-known-tag-4 c = search needs
@@ -106,17 +109,18 @@ next-turn-spec =
     enum-told-2
     finish-requires-2
     enum-known-tag
+    of-kept-requires
     enum-known-tag-2
     close-requires
     of-closed-requires
     enum-known-tag-3
-    cast-t34
     cast-t35
     cast-t36
     cast-t37
+    cast-t38
     with-field-requires
     add-of-kept
-    of-kept-requires
+    of-kept-requires-2
     enum-known-tag-4
     same-length
     same-length-2
