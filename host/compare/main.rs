@@ -8,6 +8,7 @@ mod harness;
 mod notation;
 #[cfg(original)]
 mod original;
+mod reading;
 mod rust;
 mod text;
 mod vectors;
@@ -35,6 +36,7 @@ fn main() -> ExitCode {
 /// Every area's groups. A new area is a module with a `run`, called here.
 fn compare(mut run: Run, folder: &Path) -> ExitCode {
     text::run(&mut run);
+    reading::run(&mut run);
     vectors::run(&mut run, folder);
     #[cfg(original)]
     original::run(&mut run);

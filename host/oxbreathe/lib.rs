@@ -11,6 +11,7 @@
 //! assert_eq!((refusal.cause, refusal.place), (Cause::NotUtf8, 1));
 //! ```
 
+pub mod reading;
 mod refusal;
 pub mod sys;
 pub mod text;

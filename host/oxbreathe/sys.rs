@@ -65,6 +65,20 @@ pub struct Written {
     pub length: usize,
 }
 
+/// How a text was read: refused, with what comes with the refusal, or the records and the rows they take.
+#[repr(C)]
+#[derive(Clone, Copy, Debug, Default, PartialEq, Eq)]
+pub struct ReadAnswer {
+    pub refusal: u32,
+    pub place: usize,
+    pub name: usize,
+    pub name_length: usize,
+    pub wanted: u64,
+    pub left: u64,
+    pub records: usize,
+    pub rows: usize,
+}
+
 mod c {
     use super::*;
 
@@ -80,6 +94,7 @@ mod c {
         pub fn ox_text_unsigned(text: *const u8, length: usize) -> Numbered;
         pub fn ox_text_signed(text: *const u8, length: usize) -> Numbered;
         pub fn ox_text_digits(number: u64, out: *mut u8, length: usize) -> Written;
+        pub fn ox_read(text: *const u8, length: usize, table: *mut u32, numbers: usize) -> ReadAnswer;
     }
 }
 
@@ -114,4 +129,7 @@ pub fn text_signed(text: &[u8]) -> Numbered {
 }
 pub fn text_digits(number: u64, out: &mut [u8]) -> Written {
     unsafe { c::ox_text_digits(number, out.as_mut_ptr(), out.len()) }
+}
+pub fn read(text: &[u8], table: &mut [u32]) -> ReadAnswer {
+    unsafe { c::ox_read(text.as_ptr(), text.len(), table.as_mut_ptr(), table.len()) }
 }
