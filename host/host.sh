@@ -14,7 +14,7 @@ root=$(cd "$(dirname "$0")/.." && pwd -P)
 host=$root/host
 cache=${OXBREATHE_CACHE:-${HOME:-$root}/.cache/oxbreathe}
 out=$root/.cache/host # this checkout's own build; what checkouts can share is in $cache
-vectors=$root/vectors
+vectors=$root/crates/replay/data
 arch=$(uname -m)
 target=x86_64-unknown-linux-gnu
 

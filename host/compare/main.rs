@@ -3,8 +3,11 @@
 //!   compare record DIR            records those answers
 //! SEED changes the random part; ONLY runs the groups whose name starts with it.
 
+mod frequency;
 mod generate;
 mod harness;
+#[cfg(original)]
+mod normalize;
 mod notation;
 #[cfg(original)]
 mod original;
@@ -36,8 +39,11 @@ fn main() -> ExitCode {
 /// Every area's groups. A new area is a module with a `run`, called here.
 fn compare(mut run: Run, folder: &Path) -> ExitCode {
     text::run(&mut run);
+    frequency::run(&mut run);
     reading::run(&mut run);
     vectors::run(&mut run, folder);
+    #[cfg(original)]
+    normalize::run(&mut run);
     #[cfg(original)]
     original::run(&mut run);
     #[cfg(not(original))]

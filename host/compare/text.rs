@@ -30,29 +30,15 @@ pub fn run(run: &mut Run) {
 
 // What std says, in the form of the C answers.
 
-/// The texts as `str`, or the refusal that every call gives before it looks further.
-fn read<'a, const N: usize>(texts: [&'a [u8]; N]) -> Result<[&'a str; N], (u32, usize)> {
-    if texts.iter().any(|t| t.len() > LONGEST) {
-        return Err((1, 0));
-    }
-    let mut before = 0;
-    let mut read = [""; N];
-    for (slot, text) in read.iter_mut().zip(texts) {
-        *slot = std::str::from_utf8(text).map_err(|e| (2, before + e.valid_up_to()))?;
-        before += text.len();
-    }
-    Ok(read)
-}
-
 fn check(text: &[u8]) -> Checked {
-    match read([text]) {
+    match rust::read([text]) {
         Ok([text]) => Checked { refusal: 0, place: text.len() },
         Err((refusal, place)) => Checked { refusal, place },
     }
 }
 
 fn trim(text: &[u8]) -> Trimmed {
-    match read([text]).map(|[text]| rust::trim(text)) {
+    match rust::read([text]).map(|[text]| rust::trim(text)) {
         Ok((start, end)) => Trimmed { refusal: 0, place: 0, start, end },
         Err((refusal, place)) => Trimmed { refusal, place, start: 0, end: 0 },
     }
@@ -66,26 +52,26 @@ fn told(answer: Result<bool, (u32, usize)>) -> Told {
 }
 
 fn blank(text: &[u8]) -> Told {
-    told(read([text]).map(|[text]| rust::blank(text)))
+    told(rust::read([text]).map(|[text]| rust::blank(text)))
 }
 
 fn same(a: &[u8], b: &[u8]) -> Told {
-    told(read([a, b]).map(|[a, b]| a == b))
+    told(rust::read([a, b]).map(|[a, b]| a == b))
 }
 
 fn same_raised(a: &[u8], b: &[u8]) -> Told {
-    told(read([a, b]).map(|[a, b]| a.eq_ignore_ascii_case(b)))
+    told(rust::read([a, b]).map(|[a, b]| a.eq_ignore_ascii_case(b)))
 }
 
 fn order_raised(a: &[u8], b: &[u8]) -> Ordered {
-    match read([a, b]).map(|[a, b]| rust::order_raised(a, b)) {
+    match rust::read([a, b]).map(|[a, b]| rust::order_raised(a, b)) {
         Ok(order) => Ordered { refusal: 0, place: 0, order: rust::ordinal(order) },
         Err((refusal, place)) => Ordered { refusal, place, order: 0 },
     }
 }
 
 fn found(text: &[u8], from: usize, byte: u8) -> Found {
-    match read([text]) {
+    match rust::read([text]) {
         Ok(_) => Found { refusal: 0, place: 0, at: rust::find(text, from, byte) },
         Err((refusal, place)) => Found { refusal, place, at: 0 },
     }
@@ -100,11 +86,11 @@ fn numbered(answer: Result<Option<(bool, u64)>, (u32, usize)>) -> Numbered {
 }
 
 fn unsigned(text: &[u8]) -> Numbered {
-    numbered(read([text]).map(|[text]| text.parse().ok().map(|n: u64| (false, n))))
+    numbered(rust::read([text]).map(|[text]| text.parse().ok().map(|n: u64| (false, n))))
 }
 
 fn signed(text: &[u8]) -> Numbered {
-    numbered(read([text]).map(|[text]| text.parse().ok().map(|n: i64| (n < 0, n.unsigned_abs()))))
+    numbered(rust::read([text]).map(|[text]| text.parse().ok().map(|n: i64| (n < 0, n.unsigned_abs()))))
 }
 
 // What they are compared on.
@@ -351,7 +337,7 @@ fn wrapper(g: &mut Group) {
             damage(&mut g.random, &mut b);
         }
         let (a, b) = (&a[..], &b[..]);
-        let (one, two) = (read([a]).map_err(refused), read([a, b]).map_err(refused));
+        let (one, two) = (rust::read([a]).map_err(refused), rust::read([a, b]).map_err(refused));
         g.same(a, ours::check(a), one.map(|[a]| a));
         g.same(a, ours::trim(a), one.map(|[a]| rust::trim(a)).map(|(start, end)| start..end));
         g.same(a, ours::blank(a), one.map(|[a]| rust::blank(a)));

@@ -11,6 +11,8 @@
 //! assert_eq!((refusal.cause, refusal.place), (Cause::NotUtf8, 1));
 //! ```
 
+pub mod frequency;
+pub mod normalize;
 pub mod reading;
 mod refusal;
 pub mod sys;

@@ -65,6 +65,72 @@ pub struct Written {
     pub length: usize,
 }
 
+/// Where the bytes of a text stand. Kind 0: nowhere, it is absent; 1: `len` bytes of the text from `start`; 2: those in
+/// capitals; 3 and 4: entry `start` of the bands, of the modes.
+#[repr(C)]
+#[derive(Clone, Copy, Debug, Default, PartialEq, Eq)]
+pub struct Place {
+    pub kind: u32,
+    pub start: u32,
+    pub len: u32,
+}
+
+/// Entries of a table, one after the other.
+#[repr(C)]
+#[derive(Clone, Copy, Debug, Default, PartialEq, Eq)]
+pub struct Span {
+    pub first: u32,
+    pub count: u32,
+}
+
+/// The name of an entry, with 0 after it.
+#[repr(C)]
+#[derive(Clone, Copy, Debug, Default, PartialEq, Eq)]
+pub struct Name {
+    pub bytes: [u8; 12],
+    pub len: usize,
+}
+
+/// An entry of a table, or none.
+#[repr(C)]
+#[derive(Clone, Copy, Debug, Default, PartialEq, Eq)]
+pub struct Placed {
+    pub refusal: u32,
+    pub place: usize,
+    pub entry: Place,
+}
+
+/// A mode and a submode. Where `split` is true, the submode is in the text of the mode.
+#[repr(C)]
+#[derive(Clone, Copy, Debug, Default, PartialEq, Eq)]
+pub struct Normalized {
+    pub refusal: u32,
+    pub place: usize,
+    pub mode: Place,
+    pub submode: Place,
+    pub split: bool,
+}
+
+/// A class by its number, or none: 0 phone, 1 cw, 2 digital, 3 image.
+#[repr(C)]
+#[derive(Clone, Copy, Debug, Default, PartialEq, Eq)]
+pub struct Classified {
+    pub refusal: u32,
+    pub place: usize,
+    pub present: bool,
+    pub class: u32,
+}
+
+/// The hertz that a text of megahertz says, or none.
+#[repr(C)]
+#[derive(Clone, Copy, Debug, Default, PartialEq, Eq)]
+pub struct Frequency {
+    pub refusal: u32,
+    pub place: usize,
+    pub present: bool,
+    pub hz: u64,
+}
+
 /// How a text was read: refused, with what comes with the refusal, or the records and the rows they take.
 #[repr(C)]
 #[derive(Clone, Copy, Debug, Default, PartialEq, Eq)]
@@ -94,6 +160,24 @@ mod c {
         pub fn ox_text_unsigned(text: *const u8, length: usize) -> Numbered;
         pub fn ox_text_signed(text: *const u8, length: usize) -> Numbered;
         pub fn ox_text_digits(number: u64, out: *mut u8, length: usize) -> Written;
+        pub fn ox_band_for_freq_hz(hz: u64) -> Place;
+        pub fn ox_band_all() -> Span;
+        pub fn ox_entry_name(kind: u32, entry: u32) -> Name;
+        pub fn ox_band_canonical(text: *const u8, length: usize) -> Placed;
+        pub fn ox_band_known(text: *const u8, length: usize) -> Told;
+        pub fn ox_mode_normalize(
+            mode: *const u8,
+            mode_length: usize,
+            submode: *const u8,
+            submode_length: usize,
+            given: bool,
+        ) -> Normalized;
+        pub fn ox_mode_class(text: *const u8, length: usize) -> Classified;
+        pub fn ox_class_named(text: *const u8, length: usize) -> Classified;
+        pub fn ox_class_modes(class: u32) -> Span;
+        pub fn ox_class_name(class: u32) -> Name;
+        pub fn ox_mhz_to_hz(text: *const u8, length: usize) -> Frequency;
+        pub fn ox_hz_to_mhz(hz: u64, out: *mut u8, length: usize) -> Written;
         pub fn ox_read(text: *const u8, length: usize, table: *mut u32, numbers: usize) -> ReadAnswer;
     }
 }
@@ -129,6 +213,42 @@ pub fn text_signed(text: &[u8]) -> Numbered {
 }
 pub fn text_digits(number: u64, out: &mut [u8]) -> Written {
     unsafe { c::ox_text_digits(number, out.as_mut_ptr(), out.len()) }
+}
+pub fn band_for_freq_hz(hz: u64) -> Place {
+    unsafe { c::ox_band_for_freq_hz(hz) }
+}
+pub fn band_all() -> Span {
+    unsafe { c::ox_band_all() }
+}
+pub fn entry_name(kind: u32, entry: u32) -> Name {
+    unsafe { c::ox_entry_name(kind, entry) }
+}
+pub fn band_canonical(text: &[u8]) -> Placed {
+    unsafe { c::ox_band_canonical(text.as_ptr(), text.len()) }
+}
+pub fn band_known(text: &[u8]) -> Told {
+    unsafe { c::ox_band_known(text.as_ptr(), text.len()) }
+}
+pub fn mode_normalize(mode: &[u8], submode: &[u8], given: bool) -> Normalized {
+    unsafe { c::ox_mode_normalize(mode.as_ptr(), mode.len(), submode.as_ptr(), submode.len(), given) }
+}
+pub fn mode_class(text: &[u8]) -> Classified {
+    unsafe { c::ox_mode_class(text.as_ptr(), text.len()) }
+}
+pub fn class_named(text: &[u8]) -> Classified {
+    unsafe { c::ox_class_named(text.as_ptr(), text.len()) }
+}
+pub fn class_modes(class: u32) -> Span {
+    unsafe { c::ox_class_modes(class) }
+}
+pub fn class_name(class: u32) -> Name {
+    unsafe { c::ox_class_name(class) }
+}
+pub fn mhz_to_hz(text: &[u8]) -> Frequency {
+    unsafe { c::ox_mhz_to_hz(text.as_ptr(), text.len()) }
+}
+pub fn hz_to_mhz(hz: u64, out: &mut [u8]) -> Written {
+    unsafe { c::ox_hz_to_mhz(hz, out.as_mut_ptr(), out.len()) }
 }
 pub fn read(text: &[u8], table: &mut [u32]) -> ReadAnswer {
     unsafe { c::ox_read(text.as_ptr(), text.len(), table.as_mut_ptr(), table.len()) }

@@ -48,7 +48,7 @@ number-is (suc k) n h = by (ltb n 10) (number-is k (n / 10) (div-lt-iff-lt-mul (
     by true i = omega arith
     by false i = number-append 0 (digits k (n / 10)) ((0x30 + n % 10) ∷ []) ∙ rw i (omega arith)
 
-some-digit : (k n : ℕ) → 0 < length (digits (suc k) n)
+pub some-digit : (k n : ℕ) → 0 < length (digits (suc k) n)
 unfolding digits
 some-digit k n = by (ltb n 10) (digits k (n / 10))
   where

@@ -70,3 +70,8 @@ module _ (was : List ℕ) (at : ℕ) (a b : List ℕ) (h : Room was at (a ++ b))
   pub room-next : (q : ℕ) (mid : List ℕ) → Put q was mid at a → Room mid q b
   unfolding Room
   room-next q mid p = omega (arith, h, length-append a b, put-length q was mid at a p, put-next q was mid at a p)
+
+-- the place after what was put lies within the output
+pub put-inside : (r : ℕ) (was now : List ℕ) (at : ℕ) (w : List ℕ) → Put r was now at w → Room was at w → r ≤ length now
+unfolding Room
+put-inside r was now at w p h = omega (arith, h, put-length r was now at w p, put-next r was now at w p)

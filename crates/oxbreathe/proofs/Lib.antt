@@ -1,4 +1,6 @@
 pub mod TextAnswers
 pub mod WriteAnswers
+pub mod NormalizingAnswers
+pub mod FrequencyAnswers
 pub mod ReadAnswers
 pub mod Determined

@@ -6,7 +6,7 @@ use lib.Dec.{ltb}
 use Rattle.text.specs.Pick.{pick}
 use Rattle.text.specs.Utf8.{validUpTo}
 use Rattle.refusals.specs.declared.Refusal.{Refusal}
-use Rattle.refusals.specs.declared.Refusal.the-variants.{TooLong, NotUtf8, UnterminatedTag, MissingLength, BadLength, TruncatedValue, NonUtf8, ManyNames, ManyRecords, FewRows, ShortOutput}
+use Rattle.refusals.specs.declared.Refusal.the-variants.{TooLong, NotUtf8, UnterminatedTag, MissingLength, BadLength, TruncatedValue, NonUtf8, ManyNames, ManyRecords, FewRows, ShortOutput, FrequencyTooHigh, InexactFrequency}
 use Rattle.refusals.specs.declared.Verdict.{Verdict}
 use Rattle.refusals.specs.declared.Verdict.the-variants.{Accepted, Refused}
 
@@ -22,6 +22,8 @@ numberOf ManyNames = 8
 numberOf ManyRecords = 9
 numberOf FewRows = 10
 numberOf ShortOutput = 13
+numberOf FrequencyTooHigh = 14
+numberOf InexactFrequency = 15
 
 abbrev pub placeOf : Refusal → ℕ
 placeOf TooLong = 0
@@ -35,6 +37,8 @@ placeOf ManyNames = 0
 placeOf ManyRecords = 0
 placeOf FewRows = 0
 placeOf ShortOutput = 0
+placeOf FrequencyTooHigh = 0
+placeOf InexactFrequency = 0
 
 -- the name that comes with 4 to 7, by its place in the text and its length
 abbrev pub nameOf : Refusal → ℕ
@@ -49,6 +53,8 @@ nameOf ManyNames = 0
 nameOf ManyRecords = 0
 nameOf FewRows = 0
 nameOf ShortOutput = 0
+nameOf FrequencyTooHigh = 0
+nameOf InexactFrequency = 0
 
 abbrev pub nameLengthOf : Refusal → ℕ
 nameLengthOf TooLong = 0
@@ -62,6 +68,8 @@ nameLengthOf ManyNames = 0
 nameLengthOf ManyRecords = 0
 nameLengthOf FewRows = 0
 nameLengthOf ShortOutput = 0
+nameLengthOf FrequencyTooHigh = 0
+nameLengthOf InexactFrequency = 0
 
 -- with 6, the length that was wanted and the bytes that were left
 abbrev pub wantedOf : Refusal → ℕ
@@ -76,6 +84,8 @@ wantedOf ManyNames = 0
 wantedOf ManyRecords = 0
 wantedOf FewRows = 0
 wantedOf ShortOutput = 0
+wantedOf FrequencyTooHigh = 0
+wantedOf InexactFrequency = 0
 
 abbrev pub leftOf : Refusal → ℕ
 leftOf TooLong = 0
@@ -89,6 +99,8 @@ leftOf ManyNames = 0
 leftOf ManyRecords = 0
 leftOf FewRows = 0
 leftOf ShortOutput = 0
+leftOf FrequencyTooHigh = 0
+leftOf InexactFrequency = 0
 
 -- 1 above 16,777,216 bytes, then 2 where it is not UTF-8
 unfoldable pub ofText : List ℕ → Verdict

@@ -34,6 +34,8 @@ pub enum Refusal {
     ManyRecords,
     FewRows,
     ShortOutput,
+    FrequencyTooHigh,
+    InexactFrequency,
 }
 
 pub enum Verdict {
@@ -61,6 +63,8 @@ pub fn number(r: Refusal) -> u32
         Refusal::ManyRecords => 9,
         Refusal::FewRows => 10,
         Refusal::ShortOutput => 13,
+        Refusal::FrequencyTooHigh => 14,
+        Refusal::InexactFrequency => 15,
     }
 }
 
@@ -85,6 +89,8 @@ pub fn place(r: Refusal) -> usize
         Refusal::ManyRecords => 0,
         Refusal::FewRows => 0,
         Refusal::ShortOutput => 0,
+        Refusal::FrequencyTooHigh => 0,
+        Refusal::InexactFrequency => 0,
     }
 }
 
@@ -109,6 +115,8 @@ pub fn name(r: Refusal) -> usize
         Refusal::ManyRecords => 0,
         Refusal::FewRows => 0,
         Refusal::ShortOutput => 0,
+        Refusal::FrequencyTooHigh => 0,
+        Refusal::InexactFrequency => 0,
     }
 }
 
@@ -132,6 +140,8 @@ pub fn name_length(r: Refusal) -> usize
         Refusal::ManyRecords => 0,
         Refusal::FewRows => 0,
         Refusal::ShortOutput => 0,
+        Refusal::FrequencyTooHigh => 0,
+        Refusal::InexactFrequency => 0,
     }
 }
 
@@ -156,6 +166,8 @@ pub fn wanted(r: Refusal) -> u64
         Refusal::ManyRecords => 0,
         Refusal::FewRows => 0,
         Refusal::ShortOutput => 0,
+        Refusal::FrequencyTooHigh => 0,
+        Refusal::InexactFrequency => 0,
     }
 }
 
@@ -179,6 +191,8 @@ pub fn left(r: Refusal) -> u64
         Refusal::ManyRecords => 0,
         Refusal::FewRows => 0,
         Refusal::ShortOutput => 0,
+        Refusal::FrequencyTooHigh => 0,
+        Refusal::InexactFrequency => 0,
     }
 }
 

@@ -1,21 +1,29 @@
 -- Laws of `specs/Space.antt`. Assumes nothing.
 use mathlib.Core.Path.{_≡_, refl, sym, ap, _∙_}
-use mathlib.Core.Bool.{Bool, true, false}
+use mathlib.Core.Bool.{Bool, true, false, true≢false}
 use mathlib.Core.Logic.{⊎-elim}
-use Prim.Native.Nat.{ℕ, zero, suc, _+_, _-_, _≤_, _<_}
+use Prim.Native.Nat.{ℕ, suc, _+_, _-_, _≤_, _<_}
 use native.Mathlib.Nat.{le-refl, add-zero, zero-add, suc-ne-zero, not-suc-le-zero, le-of-suc-le-suc, eq-or-lt-of-le}
 use native.Mathlib.Omega.{arith}
-use mathlib.Core.List.{List, [], _∷_, _++_, reverse, reverse-cons}
+use mathlib.Core.List.{List, [], _∷_, reverse, reverse-cons}
 use lib.ListN.{length, take, drop, getD, length-drop, length-reverse, List·getD-append, List·getD-eq-default}
 use lib.Seq.{getD-drop, getD-at, take-all}
-use lib.Dec.{lit≤, eqb}
-use borrow.Author.Tests.{eq-eqb, ne-eqb}
-use Rattle.text.specs.Pick.{pick, both}
+use lib.Dec.{lit≤, eqb, leb}
+use borrow.Author.Tests.{eq-eqb, ne-eqb, lt-leb, leb-true}
+use Rattle.text.specs.Pick.{both, within}
 use Rattle.text.specs.Space.{space1, space2, space3, space80, spaceLen, spaceBack, width, trimStart, trimEnd, trimmed, blank}
 use Rattle.text.specs.Find.{other}
 use Rattle.text.specs.Walk.{ends, lead}
 use Rattle.text.proofs.Walks.{here, on, out, lead-le}
 use Rattle.text.proofs.Utf8Laws.{pick-le, both-no}
+
+both-left : (a b : Bool) → both a b ≡ true → a ≡ true
+both-left true b e = refl
+both-left false b e = absurd (true≢false (sym e))
+
+both-right : (a b : Bool) → both a b ≡ true → b ≡ true
+both-right true b e = e
+both-right false b e = absurd (true≢false (sym e))
 
 module _ (s : List ℕ) (i n x y z : ℕ) (p q r : Bool) (ex : x ≡ getD s i 0) (ey : y ≡ getD s (i + 1) 0) (ez : z ≡ getD s (i + 2) 0) (ep : p ≡ space1 x) (e : n ≡ width p q r) where
   pub front : q ≡ space2 x y → r ≡ space3 x y z → n ≡ spaceLen (drop i s)
@@ -25,6 +33,50 @@ module _ (s : List ℕ) (i n x y z : ℕ) (p q r : Bool) (ex : x ≡ getD s i 0)
   pub back : q ≡ space2 y x → r ≡ space3 z y x → n ≡ spaceBack (drop i s)
   unfolding spaceBack
   back eq er = simp (getD-drop, add-zero, ← ex, ← ey, ← ez, ← ep, ← eq, ← er) e
+
+-- a plain byte neither begins nor ends white space
+module _ (s : List ℕ) (i x : ℕ) (t : Bool) (ex : x ≡ getD s i 0) (et : t ≡ within x 0x21 0x7F) (yes : t ≡ true) where
+  low : 0x21 ≤ x
+  low = leb-true 0x21 x (both-left (leb 0x21 x) (leb x 0x7F) (sym et ∙ yes))
+
+  high : x ≤ 0x7F
+  high = leb-true x 0x7F (both-right (leb 0x21 x) (leb x 0x7F) (sym et ∙ yes))
+
+  no-space1 : space1 x ≡ false
+  unfolding space1
+  no-space1 = rw (lt-leb x 0x0D (omega (arith, low)), ne-eqb x 0x20 (λ e. omega (arith, low))) (rw both-no)
+
+  pub plain-front : 0 ≡ spaceLen (drop i s)
+  unfolding spaceLen width space2 space3
+  plain-front =
+      simp (
+        getD-drop,
+        add-zero,
+        ← ex,
+        no-space1,
+        ne-eqb x 0xC2 (λ e. omega (arith, high)),
+        ne-eqb x 0xE1 (λ e. omega (arith, high)),
+        ne-eqb x 0xE2 (λ e. omega (arith, high)),
+        ne-eqb x 0xE3 (λ e. omega (arith, high)),
+      )
+
+  pub plain-back : 0 ≡ spaceBack (drop i s)
+  unfolding spaceBack width space2 space3 space80
+  plain-back =
+      simp (
+        getD-drop,
+        add-zero,
+        ← ex,
+        no-space1,
+        both-no,
+        lt-leb 0x80 x (omega (arith, high)),
+        lt-leb 0xA8 x (omega (arith, high)),
+        ne-eqb x 0x85 (λ e. omega (arith, high)),
+        ne-eqb x 0xA0 (λ e. omega (arith, high)),
+        ne-eqb x 0xAF (λ e. omega (arith, high)),
+        ne-eqb x 0x80 (λ e. omega (arith, high)),
+        ne-eqb x 0x9F (λ e. omega (arith, high)),
+      )
 
 ruleset small = (pick-le, lit≤, tt)
 

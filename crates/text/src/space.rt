@@ -3,6 +3,7 @@ ghost use mathlib.Core.Path.{_≡_};
 ghost use mathlib.Core.List.{reverse};
 ghost use Prim.Native.Nat.{ℕ, _+_, _≤_, _<_};
 ghost use lib.ListN.{length, getD, take, drop};
+ghost use Rattle.text.specs.Pick.{within};
 ghost use Rattle.text.specs.Space.{space1, space2, space80, space3, spaceLen, spaceBack, width, trimStart, trimEnd, trimmed, blank};
 use super::all;
 use super::any;
@@ -49,12 +50,22 @@ fn width_of(p: bool, q: bool, r: bool) -> usize
     if r { 3 } else { 0 }
 }
 
+// Visible ASCII or DEL, which neither begins nor ends white space.
+fn is_plain(a: u8) -> bool
+    ensures { λ r. ⌜ r ≡ within a 0x21 0x7F ⌝ }
+{
+    inside(a, 0x21, 0x7F)
+}
+
 fn space_at(s: &[u8], i: usize) -> usize
     requires { ⌜ i < length (now s) ⌝ }
     ensures { λ r. ⌜ r ≡ spaceLen (drop i (now (s .entry))) ⌝ }
     ensures { λ r. ⌜ i + r ≤ length (now (s .entry)) ⌝ }
 {
     let a = byte(s, i);
+    if is_plain(a) {
+        return 0;
+    }
     let b = byte(s, i + 1);
     let c = byte(s, i + 2);
     width_of(is_space1(a), is_space2(a, b), is_space3(a, b, c))
@@ -78,6 +89,9 @@ fn space_back(s: &[u8], i: usize) -> usize
     ensures { λ r. ⌜ i + r ≤ length (now (s .entry)) ⌝ }
 {
     let a = byte_back(s, i);
+    if is_plain(a) {
+        return 0;
+    }
     let b = byte_back(s, i + 1);
     let c = byte_back(s, i + 2);
     width_of(is_space1(a), is_space2(b, a), is_space3(c, b, a))

@@ -1,6 +1,8 @@
 //! Recorded answers of Rust's std and the original, one a line: written by `record`, replayed through the library as a
 //! group, and by a Rattle program. An area is one file of vectors; a new one is a module with an `AREA`, named below.
 
+mod frequency;
+mod normalize;
 mod text;
 
 use crate::generate::Random;
@@ -11,7 +13,7 @@ use std::collections::HashSet;
 use std::path::Path;
 use std::process::ExitCode;
 
-const AREAS: [Area; 1] = [text::AREA];
+const AREAS: [Area; 3] = [text::AREA, frequency::AREA, normalize::AREA];
 
 struct Area {
     /// The file's name without `.txt`.

@@ -1,10 +1,16 @@
-use Rattle.text.proofs.SpaceLaws.{front, front-fits}
+use Rattle.text.proofs.SpaceLaws.{plain-front, front, front-fits}
 use borrow.Author.Needs.{needs}
 use Rattle.text.proofs.space.space_at.Statement.{statement}
 use Rattle.text.proofs.space.space_at.Tie as tie
 
 byte-requires : tie.Need-byte-requires
 byte-requires c κs = search needs
+
+is-plain-requires : tie.Need-is-plain-requires
+is-plain-requires c κs = search needs
+
+returns : tie.Need-returns
+returns c = (search plain-front, search needs)
 
 add-byte : tie.Need-add-byte
 add-byte c = search needs
@@ -30,14 +36,16 @@ is-space3-requires c κs = search needs
 width-of-requires : tie.Need-width-of-requires
 width-of-requires c κs = search needs
 
-returns : tie.Need-returns
-returns c = search (front, front-fits)
+returns-2 : tie.Need-returns-2
+returns-2 c = search (front, front-fits)
 
 pub space-at-spec : {M : Type 1} → statement M
 space-at-spec =
     tie.close
     (tie.spec
     byte-requires
+    is-plain-requires
+    returns
     add-byte
     byte-requires-2
     add-byte-2
@@ -46,4 +54,4 @@ space-at-spec =
     is-space2-requires
     is-space3-requires
     width-of-requires
-    returns)
+    returns-2)

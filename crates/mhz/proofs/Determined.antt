@@ -1,0 +1,28 @@
+-- Each public call's promise is met by one answer. Assumes nothing.
+use mathlib.Core.Path.{sym, _∙_}
+use denote.Ref.{now}
+use Rattle.text.proofs.Once.{Once, OnceWith}
+use Rattle.output.specs.Put.{Put}
+use Rattle.mhz.proofs.mhz_string_to_hz.Reads as mhz-string-to-hz
+use Rattle.mhz.proofs.mhz_string_to_hz.Kinds as mhz-string-to-hz-kinds
+use Rattle.mhz.proofs.mhz_size.Reads as mhz-size
+use Rattle.mhz.proofs.mhz_size.Kinds as mhz-size-kinds
+use Rattle.mhz.proofs.put_mhz.Reads as put-mhz
+use Rattle.mhz.proofs.put_mhz.Kinds as put-mhz-kinds
+use Rattle.mhz.proofs.hz_to_mhz_string.Reads as hz-to-mhz-string
+use Rattle.mhz.proofs.hz_to_mhz_string.Kinds as hz-to-mhz-string-kinds
+
+mhz-string-to-hz-once : Once 1 mhz-string-to-hz-kinds.ps mhz-string-to-hz-kinds.r mhz-string-to-hz.Post
+mhz-string-to-hz-once κs a x y d e p q = p ∙ sym q
+
+mhz-size-once : Once 0 mhz-size-kinds.ps mhz-size-kinds.r mhz-size.Post
+mhz-size-once κs a x y d e p q = p ∙ sym q
+
+-- the place after what was put, and the whole output
+put-mhz-once : OnceWith 1 put-mhz-kinds.ps put-mhz-kinds.r (λ κs d. now (d .0)) put-mhz.Post
+unfolding Put
+put-mhz-once κs a x y d e p q = (p .0 ∙ sym (q .0), p .1 ∙ sym (q .1))
+
+-- the answer and the output
+hz-to-mhz-string-once : OnceWith 1 hz-to-mhz-string-kinds.ps hz-to-mhz-string-kinds.r (λ κs d. now (d .1 .0)) hz-to-mhz-string.Post
+hz-to-mhz-string-once κs a x y d e p q = (p .answer ∙ sym (q .answer), p .output ∙ sym (q .output))

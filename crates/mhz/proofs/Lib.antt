@@ -1,0 +1,11 @@
+pub mod DigitLaws
+pub mod PartLaws
+pub mod WindowLaws
+pub mod HeldLaws
+pub mod TextLaws
+pub mod WriteLaws
+pub mod Formatted
+pub mod ReadBack
+pub mod Says
+pub mod Said
+pub mod Determined

@@ -1,0 +1,59 @@
+use Rattle.normalize.specs.Table.{cut}
+use Rattle.normalize.specs.Modes.{modes, modeNames}
+use Rattle.normalize.proofs.ClassLaws.{class-found, class-unfound}
+use mathlib.Core.Path.{refl}
+use Rattle.normalize.proofs.PlaceLaws.{columns}
+use borrow.Author.Needs.{needs}
+use Rattle.normalize.proofs.classes.mode_class.Statement.{statement}
+use Rattle.normalize.proofs.classes.mode_class.Tie as tie
+
+slice-aggregate-named-in : tie.Need-slice-aggregate-named-in
+slice-aggregate-named-in c = search needs
+
+slice-aggregate-named-in-2 : tie.Need-slice-aggregate-named-in-2
+slice-aggregate-named-in-2 c = search needs
+
+trim-requires : tie.Need-trim-requires
+trim-requires c κs = search needs
+
+named-in-requires : tie.Need-named-in-requires
+named-in-requires c κs = columns _ _ refl tt tt
+
+enum-known-k : tie.Need-enum-known-k
+enum-known-k c = search needs
+
+slice-aggregate-number-at : tie.Need-slice-aggregate-number-at
+slice-aggregate-number-at c = search needs
+
+number-at-requires : tie.Need-number-at-requires
+number-at-requires c κs = search needs
+
+class-numbered-requires : tie.Need-class-numbered-requires
+class-numbered-requires c κs = search needs
+
+enum-told : tie.Need-enum-told
+enum-told c = search needs
+
+returns : tie.Need-returns
+unfolding modeNames modes cut
+returns c = class-found _ _ _ (c .before .before .before .before .before .before .before .trim .ensures) (c .before .before .before .before .before .before .named-in .ensures) _ _ _ (c .before .before .before .before .k .given .1) (c .before .number-at .ensures) (c .class-numbered .ensures)
+
+returns-2 : tie.Need-returns-2
+unfolding modeNames modes cut
+returns-2 c = class-unfound _ _ _ (c .before .before .before .trim .ensures) (c .before .before .named-in .ensures) (c .enum-told .given .1)
+
+pub mode-class-spec : {M : Type 1} → statement M
+mode-class-spec =
+    tie.close
+    (tie.spec
+    slice-aggregate-named-in
+    slice-aggregate-named-in-2
+    trim-requires
+    named-in-requires
+    enum-known-k
+    slice-aggregate-number-at
+    number-at-requires
+    class-numbered-requires
+    enum-told
+    returns
+    returns-2)
