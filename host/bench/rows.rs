@@ -6,13 +6,6 @@ use std::hint::black_box;
 use std::str::from_utf8;
 
 pub fn all() -> Vec<Row> {
-    let mut rows = texts();
-    #[cfg(original)]
-    rows.extend(reading::rows());
-    rows
-}
-
-fn texts() -> Vec<Row> {
     let ascii = kept(b"<CALL:4>W1AW <BAND:3>40m <EOR>\n".repeat(40_000)[..1 << 20].to_vec());
     let mixed = kept(mixed(1 << 20));
     let padded = kept((0..1_000).map(|i| format!(" \t\u{A0}{:>w$}\u{3000}\r\n", "W1AW/P", w = i % 16)).collect());
@@ -48,6 +41,8 @@ fn texts() -> Vec<Row> {
     rows.extend(frequencies());
     #[cfg(original)]
     rows.extend(normalizing());
+    #[cfg(original)]
+    rows.extend(crate::reading::rows());
     rows
 }
 
@@ -119,7 +114,7 @@ fn frequencies() -> [Row; 2] {
 }
 
 /// For as long as the program runs: a row's input is shared by both its sides.
-fn kept<T>(list: Vec<T>) -> &'static [T] {
+pub fn kept<T>(list: Vec<T>) -> &'static [T] {
     list.leak()
 }
 
@@ -131,73 +126,4 @@ fn sum<T>(all: &[T], of: impl Fn(&T) -> u64) -> u64 {
 fn mixed(length: usize) -> Vec<u8> {
     let ten = ["twenty me", "é", "tres, RST", "€"].concat();
     ten.repeat(length / ten.len()).into_bytes()
-}
-
-/// Reading, beside `parse_adif`.
-#[cfg(original)]
-mod reading {
-    use super::*;
-    use original::adif::parse_adif;
-    use oxbreathe::reading::read;
-
-    pub fn rows() -> Vec<Row> {
-        let file = kept(log(10_000).into_bytes());
-        let sized = [("1 MiB", 1), ("4 MiB", 4), ("16 MiB", 16)].map(|(name, mib)| (name, kept(filled(mib << 20))));
-        let mut rows = vec![Row::new("read", "10,000 records", file, library, original)];
-        rows.extend(sized.map(|(name, text)| Row::new("read", name, text, library, original)));
-        rows
-    }
-
-    fn library(text: &[u8]) -> usize {
-        thread_local!(static TABLE: std::cell::RefCell<Vec<u32>> = std::cell::RefCell::new(vec![0; 5 * 800_000]));
-        TABLE.with(|table| read(text, &mut table.borrow_mut()).map_or(0, |read| read.records))
-    }
-
-    fn original(text: &[u8]) -> usize {
-        from_utf8(text).ok().and_then(|text| parse_adif(text).ok()).map_or(0, |records| records.len())
-    }
-
-    /// A log of ordinary fields, as a logging program writes it.
-    fn log(records: usize) -> String {
-        let header = "Written by a logger\n<ADIF_VER:5>3.1.6 <PROGRAMID:6>logger <EOH>\n".to_string();
-        (0..records).fold(header, |text, i| text + &record(i))
-    }
-
-    fn record(i: usize) -> String {
-        let (band, freq) = [("40m", "7.074000"), ("20m", "14.074000"), ("2m", "144.174000")][i % 3];
-        let call =
-            format!("{}{}{}", ["W1AW", "DL0XX", "JA1ABC", "G4ZZ"][i % 4], i % 10, if i % 7 == 0 { "/P" } else { "" });
-        let fields = [
-            ("CALL", call),
-            ("QSO_DATE", format!("2026{:02}{:02}", i % 12 + 1, i % 28 + 1)),
-            ("TIME_ON", format!("{:02}{:02}{:02}", i % 24, i % 60, i * 7 % 60)),
-            ("BAND", band.to_string()),
-            ("FREQ", freq.to_string()),
-            ("MODE", ["SSB", "CW", "FT8"][i % 3].to_string()),
-            ("RST_SENT", "59".to_string()),
-            ("RST_RCVD", "599".to_string()),
-            ("GRIDSQUARE", "JO62qm".to_string()),
-            ("STATION_CALLSIGN", "DL1ABC".to_string()),
-            ("COMMENT", format!("contact no. {i}, 73 de DL1ABC")),
-        ];
-        let written =
-            fields.iter().map(|(name, value)| format!("<{name}:{}>{value} ", value.len())).collect::<String>();
-        written + "<EOR>\n"
-    }
-
-    /// The same log, repeated to that many bytes; the number of records stays within the limit.
-    fn filled(length: usize) -> Vec<u8> {
-        let note = "x".repeat(200);
-        let mut text = String::new();
-        for i in 0.. {
-            let more = record(i).replace("<EOR>", &format!("<NOTES:200>{note} <EOR>"));
-            if text.len() + more.len() > length {
-                break;
-            }
-            text += &more;
-        }
-        let mut text = text.into_bytes();
-        text.resize(length, b' ');
-        text
-    }
 }

@@ -28,7 +28,7 @@ fn answer(number: u32) -> ReadAnswer {
 }
 
 /// The answer and the table that a text is to give.
-fn expected(text: &[u8], numbers: usize) -> (ReadAnswer, Vec<u32>) {
+pub fn expected(text: &[u8], numbers: usize) -> (ReadAnswer, Vec<u32>) {
     let mut table = vec![0; numbers];
     let read = match std::str::from_utf8(text) {
         _ if text.len() > LONGEST => Err(answer(1)),
@@ -197,7 +197,7 @@ const NAMES: &[&str] = &[
 ];
 
 /// A document of some fields and records, with comments, headers, types and odd lengths.
-fn document(random: &mut Random) -> Vec<u8> {
+pub fn document(random: &mut Random) -> Vec<u8> {
     let mut text = Vec::new();
     for _ in 0..random.place(14) {
         match random.below(12) {
