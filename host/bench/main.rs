@@ -3,6 +3,8 @@
 //!   bench table COUNTS [time]   the table, from the marks in the file COUNTS, and with times measured here
 
 mod measure;
+#[cfg(original)]
+mod reading;
 mod rows;
 
 fn main() {

@@ -41,6 +41,8 @@ pub fn all() -> Vec<Row> {
     rows.extend(frequencies());
     #[cfg(original)]
     rows.extend(normalizing());
+    #[cfg(original)]
+    rows.extend(crate::reading::rows());
     rows
 }
 
@@ -112,7 +114,7 @@ fn frequencies() -> [Row; 2] {
 }
 
 /// For as long as the program runs: a row's input is shared by both its sides.
-fn kept<T>(list: Vec<T>) -> &'static [T] {
+pub fn kept<T>(list: Vec<T>) -> &'static [T] {
     list.leak()
 }
 

@@ -11,6 +11,7 @@ mod normalize;
 mod notation;
 #[cfg(original)]
 mod original;
+mod reading;
 mod rust;
 mod text;
 mod vectors;
@@ -39,6 +40,7 @@ fn main() -> ExitCode {
 fn compare(mut run: Run, folder: &Path) -> ExitCode {
     text::run(&mut run);
     frequency::run(&mut run);
+    reading::run(&mut run);
     vectors::run(&mut run, folder);
     #[cfg(original)]
     normalize::run(&mut run);

@@ -13,6 +13,7 @@
 
 pub mod frequency;
 pub mod normalize;
+pub mod reading;
 mod refusal;
 pub mod sys;
 pub mod text;

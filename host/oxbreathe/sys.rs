@@ -131,6 +131,20 @@ pub struct Frequency {
     pub hz: u64,
 }
 
+/// How a text was read: refused, with what comes with the refusal, or the records and the rows they take.
+#[repr(C)]
+#[derive(Clone, Copy, Debug, Default, PartialEq, Eq)]
+pub struct ReadAnswer {
+    pub refusal: u32,
+    pub place: usize,
+    pub name: usize,
+    pub name_length: usize,
+    pub wanted: u64,
+    pub left: u64,
+    pub records: usize,
+    pub rows: usize,
+}
+
 mod c {
     use super::*;
 
@@ -164,6 +178,7 @@ mod c {
         pub fn ox_class_name(class: u32) -> Name;
         pub fn ox_mhz_to_hz(text: *const u8, length: usize) -> Frequency;
         pub fn ox_hz_to_mhz(hz: u64, out: *mut u8, length: usize) -> Written;
+        pub fn ox_read(text: *const u8, length: usize, table: *mut u32, numbers: usize) -> ReadAnswer;
     }
 }
 
@@ -234,4 +249,7 @@ pub fn mhz_to_hz(text: &[u8]) -> Frequency {
 }
 pub fn hz_to_mhz(hz: u64, out: &mut [u8]) -> Written {
     unsafe { c::ox_hz_to_mhz(hz, out.as_mut_ptr(), out.len()) }
+}
+pub fn read(text: &[u8], table: &mut [u32]) -> ReadAnswer {
+    unsafe { c::ox_read(text.as_ptr(), text.len(), table.as_mut_ptr(), table.len()) }
 }

@@ -46,6 +46,8 @@ use Rattle.oxbreathe.proofs.frequencies.ox_mhz_to_hz.Reads as ox-mhz-to
 use Rattle.oxbreathe.proofs.frequencies.ox_mhz_to_hz.Kinds as ox-mhz-to-hz-kinds
 use Rattle.oxbreathe.proofs.frequencies.ox_hz_to_mhz.Reads as ox-hz-to-mhz
 use Rattle.oxbreathe.proofs.frequencies.ox_hz_to_mhz.Kinds as ox-hz-to-mhz-kinds
+use Rattle.oxbreathe.proofs.reading.ox_read.Reads as ox-read
+use Rattle.oxbreathe.proofs.reading.ox_read.Kinds as ox-read-kinds
 
 ox-text-check-once : Once 1 ox-text-check-kinds.ps ox-text-check-kinds.r ox-text-check.Post
 ox-text-check-once κs a x y d e p q = p ∙ sym q
@@ -113,3 +115,7 @@ ox-mhz-to-hz-once κs a x y d e p q = p ∙ sym q
 
 ox-hz-to-mhz-once : OnceWith 1 ox-hz-to-mhz-kinds.ps ox-hz-to-mhz-kinds.r (λ κs d. now (d .1 .0)) ox-hz-to-mhz.Post
 ox-hz-to-mhz-once κs a x y d e p q = (p .answer ∙ sym (q .answer), p .output ∙ sym (q .output))
+
+-- the answer and the table
+ox-read-once : OnceWith 2 ox-read-kinds.ps ox-read-kinds.r (λ κs d. now (d .1 .0)) ox-read.Post
+ox-read-once κs a x y d e p q = (p .0 ∙ sym (q .0), p .1 ∙ sym (q .1))

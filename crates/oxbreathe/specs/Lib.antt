@@ -1,4 +1,5 @@
 pub mod Texts
+pub mod Readings
 pub mod Frequencies
 pub mod Writing
 pub mod Normalizing

@@ -1,2 +1,3 @@
+pub mod TruncatedLaws
 pub mod TextLaws
 pub mod Determined

@@ -6,13 +6,21 @@ use lib.Dec.{ltb}
 use Rattle.text.specs.Pick.{pick}
 use Rattle.text.specs.Utf8.{validUpTo}
 use Rattle.refusals.specs.declared.Refusal.{Refusal}
-use Rattle.refusals.specs.declared.Refusal.the-variants.{TooLong, NotUtf8, ShortOutput, FrequencyTooHigh, InexactFrequency}
+use Rattle.refusals.specs.declared.Refusal.the-variants.{TooLong, NotUtf8, UnterminatedTag, MissingLength, BadLength, TruncatedValue, NonUtf8, ManyNames, ManyRecords, FewRows, ShortOutput, FrequencyTooHigh, InexactFrequency}
 use Rattle.refusals.specs.declared.Verdict.{Verdict}
 use Rattle.refusals.specs.declared.Verdict.the-variants.{Accepted, Refused}
 
 abbrev pub numberOf : Refusal → ℕ
 numberOf TooLong = 1
 numberOf (NotUtf8 at) = 2
+numberOf UnterminatedTag = 3
+numberOf (MissingLength name len) = 4
+numberOf (BadLength name len) = 5
+numberOf (TruncatedValue name len want rest) = 6
+numberOf (NonUtf8 name len) = 7
+numberOf ManyNames = 8
+numberOf ManyRecords = 9
+numberOf FewRows = 10
 numberOf ShortOutput = 13
 numberOf FrequencyTooHigh = 14
 numberOf InexactFrequency = 15
@@ -20,9 +28,79 @@ numberOf InexactFrequency = 15
 abbrev pub placeOf : Refusal → ℕ
 placeOf TooLong = 0
 placeOf (NotUtf8 at) = at
+placeOf UnterminatedTag = 0
+placeOf (MissingLength name len) = 0
+placeOf (BadLength name len) = 0
+placeOf (TruncatedValue name len want rest) = 0
+placeOf (NonUtf8 name len) = 0
+placeOf ManyNames = 0
+placeOf ManyRecords = 0
+placeOf FewRows = 0
 placeOf ShortOutput = 0
 placeOf FrequencyTooHigh = 0
 placeOf InexactFrequency = 0
+
+-- the name that comes with 4 to 7, by its place in the text and its length
+abbrev pub nameOf : Refusal → ℕ
+nameOf TooLong = 0
+nameOf (NotUtf8 at) = 0
+nameOf UnterminatedTag = 0
+nameOf (MissingLength name len) = name
+nameOf (BadLength name len) = name
+nameOf (TruncatedValue name len want rest) = name
+nameOf (NonUtf8 name len) = name
+nameOf ManyNames = 0
+nameOf ManyRecords = 0
+nameOf FewRows = 0
+nameOf ShortOutput = 0
+nameOf FrequencyTooHigh = 0
+nameOf InexactFrequency = 0
+
+abbrev pub nameLengthOf : Refusal → ℕ
+nameLengthOf TooLong = 0
+nameLengthOf (NotUtf8 at) = 0
+nameLengthOf UnterminatedTag = 0
+nameLengthOf (MissingLength name len) = len
+nameLengthOf (BadLength name len) = len
+nameLengthOf (TruncatedValue name len want rest) = len
+nameLengthOf (NonUtf8 name len) = len
+nameLengthOf ManyNames = 0
+nameLengthOf ManyRecords = 0
+nameLengthOf FewRows = 0
+nameLengthOf ShortOutput = 0
+nameLengthOf FrequencyTooHigh = 0
+nameLengthOf InexactFrequency = 0
+
+-- with 6, the length that was wanted and the bytes that were left
+abbrev pub wantedOf : Refusal → ℕ
+wantedOf TooLong = 0
+wantedOf (NotUtf8 at) = 0
+wantedOf UnterminatedTag = 0
+wantedOf (MissingLength name len) = 0
+wantedOf (BadLength name len) = 0
+wantedOf (TruncatedValue name len want rest) = want
+wantedOf (NonUtf8 name len) = 0
+wantedOf ManyNames = 0
+wantedOf ManyRecords = 0
+wantedOf FewRows = 0
+wantedOf ShortOutput = 0
+wantedOf FrequencyTooHigh = 0
+wantedOf InexactFrequency = 0
+
+abbrev pub leftOf : Refusal → ℕ
+leftOf TooLong = 0
+leftOf (NotUtf8 at) = 0
+leftOf UnterminatedTag = 0
+leftOf (MissingLength name len) = 0
+leftOf (BadLength name len) = 0
+leftOf (TruncatedValue name len want rest) = rest
+leftOf (NonUtf8 name len) = 0
+leftOf ManyNames = 0
+leftOf ManyRecords = 0
+leftOf FewRows = 0
+leftOf ShortOutput = 0
+leftOf FrequencyTooHigh = 0
+leftOf InexactFrequency = 0
 
 -- 1 above 16,777,216 bytes, then 2 where it is not UTF-8
 unfoldable pub ofText : List ℕ → Verdict

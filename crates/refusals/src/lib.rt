@@ -1,6 +1,6 @@
 // Why a call refuses, with document 01's numbers; and the test of a plain text, which every call that takes one makes first.
 ghost use mathlib.Core.Path.{_≡_};
-ghost use Rattle.refusals.specs.Refusals.{numberOf, placeOf, ofText, ofTexts};
+ghost use Rattle.refusals.specs.Refusals.{numberOf, placeOf, nameOf, nameLengthOf, wantedOf, leftOf, ofText, ofTexts};
 
 // The longest text, list or output, in bytes.
 pub const LONGEST: usize = 16_777_216;
@@ -9,6 +9,30 @@ pub enum Refusal {
     TooLong,
     // with the place of the first bad byte
     NotUtf8(usize),
+    UnterminatedTag,
+    // with the place and the length of the tag's name
+    MissingLength {
+        name: usize,
+        length: usize,
+    },
+    BadLength {
+        name: usize,
+        length: usize,
+    },
+    // and with the length that the tag gives and the bytes that are left
+    TruncatedValue {
+        name: usize,
+        length: usize,
+        wanted: u64,
+        left: u64,
+    },
+    NonUtf8 {
+        name: usize,
+        length: usize,
+    },
+    ManyNames,
+    ManyRecords,
+    FewRows,
     ShortOutput,
     FrequencyTooHigh,
     InexactFrequency,
@@ -25,6 +49,19 @@ pub fn number(r: Refusal) -> u32
     match r {
         Refusal::TooLong => 1,
         Refusal::NotUtf8(_) => 2,
+        Refusal::UnterminatedTag => 3,
+        Refusal::MissingLength { name: _, length: _ } => 4,
+        Refusal::BadLength { name: _, length: _ } => 5,
+        Refusal::TruncatedValue {
+            name: _,
+            length: _,
+            wanted: _,
+            left: _,
+        } => 6,
+        Refusal::NonUtf8 { name: _, length: _ } => 7,
+        Refusal::ManyNames => 8,
+        Refusal::ManyRecords => 9,
+        Refusal::FewRows => 10,
         Refusal::ShortOutput => 13,
         Refusal::FrequencyTooHigh => 14,
         Refusal::InexactFrequency => 15,
@@ -38,6 +75,121 @@ pub fn place(r: Refusal) -> usize
     match r {
         Refusal::TooLong => 0,
         Refusal::NotUtf8(at) => at,
+        Refusal::UnterminatedTag => 0,
+        Refusal::MissingLength { name: _, length: _ } => 0,
+        Refusal::BadLength { name: _, length: _ } => 0,
+        Refusal::TruncatedValue {
+            name: _,
+            length: _,
+            wanted: _,
+            left: _,
+        } => 0,
+        Refusal::NonUtf8 { name: _, length: _ } => 0,
+        Refusal::ManyNames => 0,
+        Refusal::ManyRecords => 0,
+        Refusal::FewRows => 0,
+        Refusal::ShortOutput => 0,
+        Refusal::FrequencyTooHigh => 0,
+        Refusal::InexactFrequency => 0,
+    }
+}
+
+// The place of the name that comes with a refusal, or 0; its length, or 0.
+pub fn name(r: Refusal) -> usize
+    ensures { λ n. ⌜ n ≡ nameOf r ⌝ }
+{
+    match r {
+        Refusal::TooLong => 0,
+        Refusal::NotUtf8(_) => 0,
+        Refusal::UnterminatedTag => 0,
+        Refusal::MissingLength { name, length: _ } => name,
+        Refusal::BadLength { name, length: _ } => name,
+        Refusal::TruncatedValue {
+            name,
+            length: _,
+            wanted: _,
+            left: _,
+        } => name,
+        Refusal::NonUtf8 { name, length: _ } => name,
+        Refusal::ManyNames => 0,
+        Refusal::ManyRecords => 0,
+        Refusal::FewRows => 0,
+        Refusal::ShortOutput => 0,
+        Refusal::FrequencyTooHigh => 0,
+        Refusal::InexactFrequency => 0,
+    }
+}
+
+pub fn name_length(r: Refusal) -> usize
+    ensures { λ n. ⌜ n ≡ nameLengthOf r ⌝ }
+{
+    match r {
+        Refusal::TooLong => 0,
+        Refusal::NotUtf8(_) => 0,
+        Refusal::UnterminatedTag => 0,
+        Refusal::MissingLength { name: _, length } => length,
+        Refusal::BadLength { name: _, length } => length,
+        Refusal::TruncatedValue {
+            name: _,
+            length,
+            wanted: _,
+            left: _,
+        } => length,
+        Refusal::NonUtf8 { name: _, length } => length,
+        Refusal::ManyNames => 0,
+        Refusal::ManyRecords => 0,
+        Refusal::FewRows => 0,
+        Refusal::ShortOutput => 0,
+        Refusal::FrequencyTooHigh => 0,
+        Refusal::InexactFrequency => 0,
+    }
+}
+
+// The length that a truncated value was to have, and what was left for it.
+pub fn wanted(r: Refusal) -> u64
+    ensures { λ n. ⌜ n ≡ wantedOf r ⌝ }
+{
+    match r {
+        Refusal::TooLong => 0,
+        Refusal::NotUtf8(_) => 0,
+        Refusal::UnterminatedTag => 0,
+        Refusal::MissingLength { name: _, length: _ } => 0,
+        Refusal::BadLength { name: _, length: _ } => 0,
+        Refusal::TruncatedValue {
+            name: _,
+            length: _,
+            wanted,
+            left: _,
+        } => wanted,
+        Refusal::NonUtf8 { name: _, length: _ } => 0,
+        Refusal::ManyNames => 0,
+        Refusal::ManyRecords => 0,
+        Refusal::FewRows => 0,
+        Refusal::ShortOutput => 0,
+        Refusal::FrequencyTooHigh => 0,
+        Refusal::InexactFrequency => 0,
+    }
+}
+
+pub fn left(r: Refusal) -> u64
+    ensures { λ n. ⌜ n ≡ leftOf r ⌝ }
+{
+    match r {
+        Refusal::TooLong => 0,
+        Refusal::NotUtf8(_) => 0,
+        Refusal::UnterminatedTag => 0,
+        Refusal::MissingLength { name: _, length: _ } => 0,
+        Refusal::BadLength { name: _, length: _ } => 0,
+        Refusal::TruncatedValue {
+            name: _,
+            length: _,
+            wanted: _,
+            left,
+        } => left,
+        Refusal::NonUtf8 { name: _, length: _ } => 0,
+        Refusal::ManyNames => 0,
+        Refusal::ManyRecords => 0,
+        Refusal::FewRows => 0,
         Refusal::ShortOutput => 0,
         Refusal::FrequencyTooHigh => 0,
         Refusal::InexactFrequency => 0,

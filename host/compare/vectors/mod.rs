@@ -3,6 +3,7 @@
 
 mod frequency;
 mod normalize;
+mod reading;
 mod text;
 
 use crate::generate::Random;
@@ -13,7 +14,7 @@ use std::collections::HashSet;
 use std::path::Path;
 use std::process::ExitCode;
 
-const AREAS: [Area; 3] = [text::AREA, frequency::AREA, normalize::AREA];
+const AREAS: [Area; 4] = [text::AREA, frequency::AREA, normalize::AREA, reading::AREA];
 
 struct Area {
     /// The file's name without `.txt`.

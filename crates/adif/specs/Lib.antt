@@ -1,0 +1,6 @@
+pub mod Records
+pub mod Grammar
+pub mod Reading
+pub mod Told
+pub mod Limits
+pub mod Examples

@@ -1,0 +1,57 @@
+use Rattle.reader.proofs.CloseLaws.{close-empty, close-many, close-few, close-moved}
+use borrow.Author.Needs.{needs}
+use Rattle.reader.proofs.close.Statement.{statement}
+use Rattle.reader.proofs.close.Tie as tie
+
+returns : tie.Need-returns
+returns c = search close-empty
+
+returns-2 : tie.Need-returns-2
+returns-2 c = search close-many
+
+sub-if3 : tie.Need-sub-if3
+sub-if3 c = search needs
+
+returns-3 : tie.Need-returns-3
+returns-3 c = search close-few
+
+mul-move-rows : tie.Need-mul-move-rows
+mul-move-rows c = search needs
+
+add-move-rows : tie.Need-add-move-rows
+add-move-rows c = search needs
+
+cast-move-rows : tie.Need-cast-move-rows
+cast-move-rows c = search needs
+
+move-rows-requires : tie.Need-move-rows-requires
+move-rows-requires c κs = search needs
+
+add-t10 : tie.Need-add-t10
+add-t10 c = search needs
+
+add-t8 : tie.Need-add-t8
+add-t8 c = search needs
+
+same-length : tie.Need-same-length
+same-length c = search needs
+
+returns-4 : tie.Need-returns-4
+returns-4 c = search close-moved
+
+pub close-spec : {M : Type 1} → statement M
+close-spec =
+    tie.close
+    (tie.spec
+    returns
+    returns-2
+    sub-if3
+    returns-3
+    mul-move-rows
+    add-move-rows
+    cast-move-rows
+    move-rows-requires
+    add-t10
+    add-t8
+    same-length
+    returns-4)

@@ -1,0 +1,137 @@
+use Rattle.reader.proofs.TurnLaws.{name-fits, name-length-fits, value-fits, value-length-fits, end-fits, turn-end, turn-eof, turn-eoh, turn-eor, turn-field, turn-refused}
+use borrow.Author.Needs.{needs}
+use Rattle.reader.proofs.next_turn.Statement.{statement}
+use Rattle.reader.proofs.next_turn.Tie as tie
+
+next-tag-requires : tie.Need-next-tag-requires
+next-tag-requires c κs = search needs
+
+enum-told : tie.Need-enum-told
+enum-told c = search needs
+
+finish-requires : tie.Need-finish-requires
+finish-requires c κs = search needs
+
+enum-told-2 : tie.Need-enum-told-2
+enum-told-2 c = search needs
+
+finish-requires-2 : tie.Need-finish-requires-2
+finish-requires-2 c κs = search needs
+
+enum-known-tag : tie.Need-enum-known-tag
+enum-known-tag c = search needs
+
+of-kept-requires : tie.Need-of-kept-requires
+of-kept-requires c κs = search needs
+
+enum-known-tag-2 : tie.Need-enum-known-tag-2
+enum-known-tag-2 c = search needs
+
+close-requires : tie.Need-close-requires
+close-requires c κs = search needs
+
+of-closed-requires : tie.Need-of-closed-requires
+of-closed-requires c κs = search needs
+
+enum-known-tag-3 : tie.Need-enum-known-tag-3
+enum-known-tag-3 c = search needs
+
+cast-t35 : tie.Need-cast-t35
+cast-t35 c = search name-fits
+
+cast-t36 : tie.Need-cast-t36
+cast-t36 c = search name-length-fits
+
+cast-t37 : tie.Need-cast-t37
+cast-t37 c = search value-fits
+
+cast-t38 : tie.Need-cast-t38
+cast-t38 c = search value-length-fits
+
+with-field-requires : tie.Need-with-field-requires
+with-field-requires c κs = search needs
+
+add-of-kept : tie.Need-add-of-kept
+add-of-kept c = search end-fits
+
+of-kept-requires-2 : tie.Need-of-kept-requires-2
+of-kept-requires-2 c κs = search needs
+
+enum-known-tag-4 : tie.Need-enum-known-tag-4
+enum-known-tag-4 c = search needs
+
+same-length : tie.Need-same-length
+same-length c = search needs
+
+same-length-2 : tie.Need-same-length-2
+same-length-2 c = search needs
+
+returns : tie.Need-returns
+returns c = search turn-end
+
+same-length-3 : tie.Need-same-length-3
+same-length-3 c = search needs
+
+same-length-4 : tie.Need-same-length-4
+same-length-4 c = search needs
+
+returns-2 : tie.Need-returns-2
+returns-2 c = search turn-eof
+
+returns-3 : tie.Need-returns-3
+returns-3 c = search turn-eoh
+
+same-length-5 : tie.Need-same-length-5
+same-length-5 c = search needs
+
+same-length-6 : tie.Need-same-length-6
+same-length-6 c = search needs
+
+returns-4 : tie.Need-returns-4
+returns-4 c = search turn-eor
+
+same-length-7 : tie.Need-same-length-7
+same-length-7 c = search needs
+
+returns-5 : tie.Need-returns-5
+returns-5 c = search turn-field
+
+returns-6 : tie.Need-returns-6
+returns-6 c = search turn-refused
+
+pub next-turn-spec : {M : Type 1} → statement M
+next-turn-spec =
+    tie.close
+    (tie.spec
+    next-tag-requires
+    enum-told
+    finish-requires
+    enum-told-2
+    finish-requires-2
+    enum-known-tag
+    of-kept-requires
+    enum-known-tag-2
+    close-requires
+    of-closed-requires
+    enum-known-tag-3
+    cast-t35
+    cast-t36
+    cast-t37
+    cast-t38
+    with-field-requires
+    add-of-kept
+    of-kept-requires-2
+    enum-known-tag-4
+    same-length
+    same-length-2
+    returns
+    same-length-3
+    same-length-4
+    returns-2
+    returns-3
+    same-length-5
+    same-length-6
+    returns-4
+    same-length-7
+    returns-5
+    returns-6)

@@ -1,0 +1,76 @@
+-- The first tag from `at` on is ahead of `at`. Assumes nothing.
+use mathlib.Core.Path.{_≡_, refl}
+use mathlib.Core.Bool.{Bool, true, false}
+use Prim.Native.Nat.{ℕ, _+_, _-_, _^_, _≤_, _<_}
+use native.Mathlib.Omega.{arith}
+use mathlib.Core.List.{List}
+use lib.ListN.{length, getD, take, drop, length-take, length-drop}
+use lib.Dec.{leb, ltb}
+use borrow.Author.Tests.{ltb-true, leb-true}
+use Rattle.text.specs.Pick.{pick}
+use Rattle.text.specs.Walk.{ends}
+use Rattle.text.specs.Find.{other}
+use Rattle.text.specs.Space.{trimStart, trimEnd}
+use Rattle.text.specs.Utf8.{cont}
+use Rattle.text.proofs.SpaceLaws.{start-le, end-le}
+use Rattle.decimal.specs.declared.Unsigned.{Unsigned}
+use Rattle.decimal.specs.declared.Unsigned.the-variants.{Is, Not}
+use Rattle.tags.specs.Tags.{lt, gt, colonAt, nameAt, nameLength, nameOf, kindOf, lengthAfter, valueOf, byKind, tagOf, closedAt, openAt, tagAt}
+use Rattle.tags.specs.Ahead.{Ahead}
+use Rattle.tags.specs.declared.Kind.{Kind}
+use Rattle.tags.specs.declared.Kind.the-variants.{EndOfHeader, EndOfRecord, EndOfFile, FieldName}
+use Rattle.tags.specs.declared.Tag.{Tag}
+use Rattle.tags.specs.declared.Tag.the-variants.{Eoh, Eor, Field}
+
+pick-elim : {A : Type 0} (P : A → Type 0) (t : Bool) (x y : A) → (t ≡ true → P x) → (t ≡ false → P y) → P (pick t x y)
+pick-elim P true x y f g = f refl
+pick-elim P false x y f g = g refl
+
+past : (h : List ℕ → ℕ) (s : List ℕ) (i : ℕ) → i ≤ ends h s i
+unfolding ends
+past h s i = omega arith
+
+name-in : (t : List ℕ) → nameAt t + nameLength t ≤ length t
+unfolding nameLength nameAt
+name-in t =
+    let w : List ℕ = take (colonAt t) t in
+    omega (arith, length-take (colonAt t) t, length-drop (trimStart w) w, start-le w, end-le (drop (trimStart w) w))
+
+module _ (s : List ℕ) (at next : ℕ) (p : at < next) (q : next ≤ length s) where
+  value-ahead : (a k : ℕ) → a + k ≤ length s → (num : Unsigned) → Ahead s at (valueOf s a k next num)
+  unfolding valueOf
+  value-ahead a k m Not = tt
+  value-ahead a k m (Is n) =
+      pick-elim (Ahead s at) (leb n (length s - next)) _ _
+      (λ e. pick-elim (Ahead s at) (cont (getD s (next + n) 0)) _ _ (λ _. tt) (λ _. omega (arith, leb-true n (length s - next) e)))
+      (λ _. tt)
+
+  kind-ahead : (a : ℕ) (t : List ℕ) → a + length t ≤ length s → (k : Kind) → Ahead s at (byKind s a t next k)
+  unfolding byKind
+  kind-ahead a t m EndOfHeader = (p, q)
+  kind-ahead a t m EndOfRecord = (p, q)
+  kind-ahead a t m EndOfFile = tt
+  kind-ahead a t m FieldName =
+      pick-elim (Ahead s at) (ltb (colonAt t) (length t)) _ _
+      (λ _. value-ahead (a + nameAt t) (nameLength t) (omega (arith, name-in t)) (lengthAfter t (colonAt t)))
+      (λ _. tt)
+
+closed-ahead : (s : List ℕ) (at a e : ℕ) → at < a → a ≤ e → Ahead s at (closedAt s a e)
+unfolding closedAt tagOf
+closed-ahead s at a e p q =
+    pick-elim (Ahead s at) (ltb e (length s)) _ _
+    (λ t.
+    let h : e < length s = ltb-true e (length s) t in
+    kind-ahead s at (e + 1) (omega arith) (omega arith) a (take (e - a) (drop a s)) (simp (length-take, length-drop) (omega arith)) (kindOf (nameOf (take (e - a) (drop a s)))))
+    (λ _. tt)
+
+open-ahead : (s : List ℕ) (at i : ℕ) → at ≤ i → Ahead s at (openAt s i)
+unfolding openAt
+open-ahead s at i p =
+    pick-elim (Ahead s at) (ltb i (length s)) _ _
+    (λ e. closed-ahead s at (i + 1) (ends (other gt) s (i + 1)) (omega arith) (past (other gt) s (i + 1)))
+    (λ _. tt)
+
+pub ahead : (s : List ℕ) (at : ℕ) → Ahead s at (tagAt s at)
+unfolding tagAt
+ahead s at = open-ahead s at (ends (other lt) s at) (past (other lt) s at)

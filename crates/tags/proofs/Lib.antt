@@ -1,0 +1,4 @@
+pub mod TagLaws
+pub mod AheadLaws
+pub mod ValueLaws
+pub mod Determined

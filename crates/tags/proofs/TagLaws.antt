@@ -1,0 +1,123 @@
+-- Laws of `specs/Tags.antt`, by the tests that the code makes. Assumes nothing.
+use mathlib.Core.Path.{_≡_, refl, sym, ap, _∙_}
+use mathlib.Core.Bool.{Bool, true, false}
+use Prim.Native.Nat.{ℕ, _+_, _-_, _^_, _≤_, _<_}
+use native.Mathlib.Omega.{arith}
+use mathlib.Core.List.{List}
+use lib.ListN.{length, getD, take, drop, length-take, length-drop}
+use mir.Syntax.{w64}
+use mir.Val.{Fits}
+use borrow.Author.Tests.{le-leb, lt-leb, lt-ltb, le-ltb}
+use Rattle.text.specs.Pick.{within}
+use Rattle.text.specs.Walk.{lead, ends}
+use Rattle.text.specs.Find.{other}
+use Rattle.text.specs.Space.{trimStart, trimEnd, trimmed}
+use Rattle.text.proofs.SpaceLaws.{rest, trim-part}
+use Rattle.letters.specs.Same.{sameRaised}
+use Rattle.decimal.specs.Decimal.{unsignedOf}
+use Rattle.decimal.specs.declared.Unsigned.{Unsigned}
+use Rattle.decimal.specs.declared.Unsigned.the-variants.{Is, Not}
+use Rattle.refusals.specs.declared.Refusal.the-variants.{UnterminatedTag, MissingLength, BadLength, TruncatedValue, NonUtf8}
+use Rattle.tags.specs.Tags.{lt, gt, colon, eoh, eor, eof, kindOf, colonAt, nameAt, nameLength, nameOf, lengthAfter, valueOf, byKind, tagOf, closedAt, openAt, tagAt}
+use Rattle.tags.specs.declared.Kind.{Kind}
+use Rattle.tags.specs.declared.Kind.the-variants.{EndOfHeader, EndOfRecord, EndOfFile, FieldName}
+use Rattle.tags.specs.declared.Tag.{Tag}
+use Rattle.tags.specs.declared.Tag.the-variants.{End, Eoh, Eor, Eof, Field, Refused}
+
+-- the kind of a name
+module _ (n : List ℕ) (p : Bool) (e : p ≡ sameRaised n eoh) where
+  pub kind-eoh : p ≡ true → EndOfHeader ≡ kindOf n
+  unfolding kindOf
+  kind-eoh h = simp (← e, h)
+
+  module _ (pn : p ≡ false) (q : Bool) (f : q ≡ sameRaised n eor) where
+    pub kind-eor : q ≡ true → EndOfRecord ≡ kindOf n
+    unfolding kindOf
+    kind-eor h = simp (← e, pn, ← f, h)
+
+    module _ (qn : q ≡ false) (r : Bool) (g : r ≡ sameRaised n eof) where
+      pub kind-eof : r ≡ true → EndOfFile ≡ kindOf n
+      unfolding kindOf
+      kind-eof h = simp (← e, pn, ← f, qn, ← g, h)
+
+      pub kind-field : r ≡ false → FieldName ≡ kindOf n
+      unfolding kindOf
+      kind-field h = simp (← e, pn, ← f, qn, ← g, h)
+
+-- a length and a value
+pub length-part : (t : List ℕ) (c e : ℕ) (u : List ℕ) (r : Unsigned)
+    → e ≡ ends (other colon) (take (length t - (c + 1)) (drop (c + 1) t)) 0
+    → u ≡ trimmed (take e (take (length t - (c + 1)) (drop (c + 1) t)))
+    → r ≡ unsignedOf u → r ≡ lengthAfter t c
+unfolding lengthAfter colonAt
+length-part t c e u r p q w = w ∙ ap unsignedOf q ∙ simp (p, rest)
+
+module _ (s : List ℕ) (a k next : ℕ) (num : Unsigned) where
+  pub value-bad : num ≡ Not → Refused (BadLength a k) ≡ valueOf s a k next num
+  unfolding valueOf
+  value-bad e = rw e
+
+  module _ (n : ℕ) (e : num ≡ Is n) where
+    pub value-cut : length s - next < n → Refused (TruncatedValue a k n (length s - next)) ≡ valueOf s a k next num
+    unfolding valueOf
+    value-cut h = simp (e, lt-leb n (length s - next) h)
+
+    module _ (h : n ≤ length s - next) (b : ℕ) (f : b ≡ getD s (next + n) 0) (t : Bool) (g : t ≡ within b 0x80 0xBF) where
+      pub value-torn : t ≡ true → Refused (NonUtf8 a k) ≡ valueOf s a k next num
+      unfolding valueOf
+      value-torn y = simp (e, le-leb n (length s - next) h, ← f, ← g, y)
+
+      pub value-whole : t ≡ false → Field a k next n ≡ valueOf s a k next num
+      unfolding valueOf
+      value-whole y = simp (e, le-leb n (length s - next) h, ← f, ← g, y)
+
+-- a tag, by its inside t
+module _ (s : List ℕ) (a : ℕ) (t : List ℕ) (next c i n : ℕ) (k : Kind) (ec : c ≡ ends (other colon) t 0) (ei : i ≡ trimStart (take c t))
+    (en : n ≡ trimEnd (take (length (take c t) - i) (drop i (take c t))))
+    (ek : k ≡ kindOf (take n (take (length (take c t) - i) (drop i (take c t))))) where
+  kind-is : kindOf (nameOf t) ≡ k
+  unfolding nameOf colonAt
+  kind-is = rw (← ec, ← trim-part (take c t) i n ei en) (sym ek)
+
+  pub tag-eoh : k ≡ EndOfHeader → Eoh next ≡ tagOf s a t next
+  unfolding tagOf byKind
+  tag-eoh e = rw (kind-is, e)
+
+  pub tag-eor : k ≡ EndOfRecord → Eor next ≡ tagOf s a t next
+  unfolding tagOf byKind
+  tag-eor e = rw (kind-is, e)
+
+  pub tag-eof : k ≡ EndOfFile → Eof ≡ tagOf s a t next
+  unfolding tagOf byKind
+  tag-eof e = rw (kind-is, e)
+
+  pub tag-missing : k ≡ FieldName → length t ≤ c → Refused (MissingLength (a + i) n) ≡ tagOf s a t next
+  unfolding tagOf byKind nameLength nameAt colonAt
+  tag-missing e h = rw (kind-is, e) (simp (← ec, le-ltb c (length t) h, ← ei) (rw (en, rest)))
+
+  pub tag-field : (num : Unsigned) (r : Tag) → k ≡ FieldName → c < length t → num ≡ lengthAfter t c → r ≡ valueOf s (a + i) n next num → r ≡ tagOf s a t next
+  unfolding tagOf byKind nameLength nameAt colonAt
+  tag-field num r e h f g = rw (kind-is, e) (simp (← ec, lt-ltb c (length t) h, ← ei, ← f) (g ∙ rw (en, rest)))
+
+pub name-fits : (s : List ℕ) (a e c i : ℕ) → a ≤ e → e < length s → length s < 2 ^ 64 → i ≤ length (take c (take (e - a) (drop a s))) → Fits w64 (a + i)
+name-fits s a e c i p q l h =
+    omega (arith, length-take c (take (e - a) (drop a s)), length-take (e - a) (drop a s))
+
+-- the first tag
+pub tag-past : (s : List ℕ) (at : ℕ) → length s ≤ at → End ≡ tagAt s at
+unfolding tagAt openAt ends
+tag-past s at h = simp (le-ltb (at + lead (other lt) (drop at s)) (length s) (omega arith))
+
+module _ (s : List ℕ) (at i : ℕ) (e : i ≡ ends (other lt) s at) where
+  pub tag-none : length s ≤ i → End ≡ tagAt s at
+  unfolding tagAt openAt
+  tag-none h = simp (← e, le-ltb i (length s) h)
+
+  module _ (h : i < length s) (j : ℕ) (f : j ≡ ends (other gt) s (i + 1)) where
+    pub tag-open : length s ≤ j → Refused UnterminatedTag ≡ tagAt s at
+    unfolding tagAt openAt closedAt
+    tag-open g = simp (← e, lt-ltb i (length s) h, ← f, le-ltb j (length s) g)
+
+    pub tag-is : (r : Tag) → j < length s → r ≡ tagOf s (i + 1) (take (j - (i + 1)) (drop (i + 1) s)) (j + 1) → r ≡ tagAt s at
+    unfolding tagAt openAt closedAt
+    tag-is r g q = simp (← e, lt-ltb i (length s) h, ← f, lt-ltb j (length s) g) q

@@ -1,0 +1,93 @@
+-- The tags of an ADIF text, by their places in it.
+use Prim.Native.Nat.{ℕ, _+_, _-_}
+use mathlib.Core.Bool.{Bool}
+use mathlib.Core.List.{List, [], _∷_}
+use lib.ListN.{length, getD, take, drop}
+use lib.Dec.{ltb, leb}
+use Rattle.text.specs.Pick.{pick}
+use Rattle.text.specs.Walk.{ends}
+use Rattle.text.specs.Find.{other}
+use Rattle.text.specs.Utf8.{cont}
+use Rattle.text.specs.Space.{trimStart, trimEnd, trimmed}
+use Rattle.letters.specs.Same.{sameRaised}
+use Rattle.decimal.specs.Decimal.{unsignedOf}
+use Rattle.decimal.specs.declared.Unsigned.{Unsigned}
+use Rattle.decimal.specs.declared.Unsigned.the-variants.{Is, Not}
+use Rattle.refusals.specs.declared.Refusal.the-variants.{UnterminatedTag, MissingLength, BadLength, TruncatedValue, NonUtf8}
+use Rattle.tags.specs.declared.Kind.{Kind}
+use Rattle.tags.specs.declared.Kind.the-variants.{EndOfHeader, EndOfRecord, EndOfFile, FieldName}
+use Rattle.tags.specs.declared.Tag.{Tag}
+use Rattle.tags.specs.declared.Tag.the-variants.{End, Eoh, Eor, Eof, Field, Refused}
+
+-- "<", ">", ":"
+abbrev pub lt : ℕ
+lt = 0x3C
+
+abbrev pub gt : ℕ
+gt = 0x3E
+
+abbrev pub colon : ℕ
+colon = 0x3A
+
+-- the control names: "EOH", "EOR", "APP_LOTW_EOF"
+abbrev pub eoh : List ℕ
+eoh = 69 ∷ 79 ∷ 72 ∷ []
+
+abbrev pub eor : List ℕ
+eor = 69 ∷ 79 ∷ 82 ∷ []
+
+abbrev pub eof : List ℕ
+eof = 65 ∷ 80 ∷ 80 ∷ 95 ∷ 76 ∷ 79 ∷ 84 ∷ 87 ∷ 95 ∷ 69 ∷ 79 ∷ 70 ∷ []
+
+unfoldable pub kindOf : List ℕ → Kind
+kindOf name =
+    pick (sameRaised name eoh) EndOfHeader (pick (sameRaised name eor) EndOfRecord (pick (sameRaised name eof) EndOfFile FieldName))
+
+-- the place of the first colon, or the length
+unfoldable pub colonAt : List ℕ → ℕ
+colonAt t = ends (other colon) t 0
+
+-- of the inside t of a tag: where its name starts, the name's length, and the name
+unfoldable pub nameAt : List ℕ → ℕ
+nameAt t = trimStart (take (colonAt t) t)
+
+unfoldable pub nameLength : List ℕ → ℕ
+nameLength t = trimEnd (drop (nameAt t) (take (colonAt t) t))
+
+unfoldable pub nameOf : List ℕ → List ℕ
+nameOf t = trimmed (take (colonAt t) t)
+
+-- the length that stands between the first colon, at c, and the second
+unfoldable pub lengthAfter : List ℕ → ℕ → Unsigned
+lengthAfter t c = unsignedOf (trimmed (take (colonAt (drop (c + 1) t)) (drop (c + 1) t)))
+
+-- the field of the name of k bytes at a, whose value is the n bytes from `next` on: 5, 6, and 7 where it ends inside a character
+unfoldable pub valueOf : List ℕ → ℕ → ℕ → ℕ → Unsigned → Tag
+valueOf s a k next Not = Refused (BadLength a k)
+valueOf s a k next (Is n) =
+    pick (leb n (length s - next)) (pick (cont (getD s (next + n) 0)) (Refused (NonUtf8 a k)) (Field a k next n))
+    (Refused (TruncatedValue a k n (length s - next)))
+
+-- a tag whose inside t starts at a, and that ends at `next`
+unfoldable pub byKind : List ℕ → ℕ → List ℕ → ℕ → Kind → Tag
+byKind s a t next EndOfHeader = Eoh next
+byKind s a t next EndOfRecord = Eor next
+byKind s a t next EndOfFile = Eof
+byKind s a t next FieldName =
+    pick (ltb (colonAt t) (length t)) (valueOf s (a + nameAt t) (nameLength t) next (lengthAfter t (colonAt t)))
+    (Refused (MissingLength (a + nameAt t) (nameLength t)))
+
+unfoldable pub tagOf : List ℕ → ℕ → List ℕ → ℕ → Tag
+tagOf s a t next = byKind s a t next (kindOf (nameOf t))
+
+-- the tag that is opened before a, and closed at e if at all
+unfoldable pub closedAt : List ℕ → ℕ → ℕ → Tag
+closedAt s a e = pick (ltb e (length s)) (tagOf s a (take (e - a) (drop a s)) (e + 1)) (Refused UnterminatedTag)
+
+-- the tag that is opened at i, if one is
+unfoldable pub openAt : List ℕ → ℕ → Tag
+openAt s i = pick (ltb i (length s)) (closedAt s (i + 1) (ends (other gt) s (i + 1))) End
+
+-- the first tag from `at` on
+unfoldable pub tagAt : List ℕ → ℕ → Tag
+tagAt s at = openAt s (ends (other lt) s at)
