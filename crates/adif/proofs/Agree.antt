@@ -12,7 +12,7 @@ use Rattle.letters.specs.Capitals.{capitals}
 use Rattle.decimal.specs.Decimal.{unsignedOf}
 use Rattle.decimal.specs.declared.Unsigned.the-variants.{Is, Not}
 use Rattle.refusals.specs.declared.Refusal.{Refusal}
-use Rattle.tags.specs.Tags.{lt, gt, colon, kindOf, byKind, tagAt, nameAt, nameLength}
+use Rattle.tags.specs.Tags.{lt, gt, colon, kindOf, byKind, tagAt, nameAt, namePlace, nameLength}
 use Rattle.tags.specs.Ahead.{Ahead}
 use Rattle.tags.specs.declared.Kind.the-variants.{EndOfHeader, EndOfRecord, EndOfFile, FieldName}
 use Rattle.tags.specs.declared.Tag.{Tag}
@@ -76,10 +76,10 @@ module _ (s : List ℕ) (room : ℕ) (u : Utf8 s) where
 
   -- the row of a field
   abbrev row-at : (at : ℕ) (t rest : List ℕ) → Tagged (drop at s) t rest → List ℕ → Row
-  row-at at t rest U v = (TagSays.inner s at t rest U + nameAt t) ∷ nameLength t ∷ TagSays.next s at t rest U ∷ length v ∷ []
+  row-at at t rest U v = (namePlace (TagSays.inner s at t rest U) t) ∷ nameLength t ∷ TagSays.next s at t rest U ∷ length v ∷ []
 
   module _ (at : ℕ) (t rest : List ℕ) (U : Tagged (drop at s) t rest) (n l : List ℕ) (z : Sized t n l) (k : kindOf (trimmed n) ≡ FieldName) where
-    named : capitals (part s (TagSays.inner s at t rest U + nameAt t) (nameLength t)) ≡ capitals (trimmed n)
+    named : capitals (part s (namePlace (TagSays.inner s at t rest U) t) (nameLength t)) ≡ capitals (trimmed n)
     named = ap capitals (TagSays.name-is s at t rest U n (colon ∷ z .more) (TagSays.first s at t rest U n l z k) (z .is))
 
     row-is : (v more : List ℕ) → unsignedOf (trimmed l) ≡ Is (length v) → rest ≡ v ++ more

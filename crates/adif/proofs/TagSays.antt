@@ -7,7 +7,8 @@ use native.Mathlib.Nat.{add-zero}
 use native.Mathlib.Omega.{arith}
 use lib.ListN.{length, getD, take, drop, length-append, length-drop}
 use lib.Seq.{take-at, drop-drop, drop-append-le, take-append-le, getD-drop, drop-append-add, getD-at}
-use borrow.Author.Tests.{lt-ltb, le-ltb, le-leb, lt-leb}
+use lib.Dec.{eqb}
+use borrow.Author.Tests.{eqb-true, lt-ltb, le-ltb, le-leb, lt-leb}
 use Rattle.text.specs.Pick.{pick}
 use Rattle.text.specs.Walk.{ends}
 use Rattle.text.specs.Find.{other}
@@ -17,7 +18,7 @@ use Rattle.text.proofs.SpaceLaws.{start-le, end-le}
 use Rattle.decimal.specs.Decimal.{unsignedOf}
 use Rattle.decimal.specs.declared.Unsigned.the-variants.{Is, Not}
 use Rattle.refusals.specs.declared.Refusal.the-variants.{UnterminatedTag, MissingLength, BadLength, TruncatedValue, NonUtf8}
-use Rattle.tags.specs.Tags.{lt, gt, colon, kindOf, colonAt, nameAt, nameLength, nameOf, lengthAfter, valueOf, byKind, tagOf, closedAt, openAt, tagAt}
+use Rattle.tags.specs.Tags.{lt, gt, colon, kindOf, colonAt, nameAt, namePlace, nameLength, nameOf, lengthAfter, valueOf, byKind, tagOf, closedAt, openAt, tagAt}
 use Rattle.tags.specs.declared.Kind.{Kind}
 use Rattle.tags.specs.declared.Kind.the-variants.{EndOfHeader, EndOfRecord, EndOfFile, FieldName}
 use Rattle.tags.specs.declared.Tag.the-variants.{End, Field, Refused}
@@ -79,13 +80,24 @@ module _ (s : List ℕ) (at : ℕ) (t rest : List ℕ) (T : Tagged (drop at s) t
   by-name n k c e = tag-is ∙ rw (cut-is colon c, e)
 
   -- the name that the places stand for
-  pub name-is : (n tail : List ℕ) → Cut colon t n → t ≡ n ++ tail → take (nameLength t) (drop (inner + nameAt t) s) ≡ trimmed n
+  stands : (n tail : List ℕ) → Cut colon t n → t ≡ n ++ tail → take (nameLength t) (drop (inner + nameAt t) s) ≡ trimmed n
   unfolding nameAt nameLength trimmed colonAt
-  name-is n tail c f =
+  stands n tail c f =
       let d : drop inner s ≡ n ++ (tail ++ gt ∷ rest) = drop-inner ∙ rw f (append-assoc n tail (gt ∷ rest)) in
       rw (cut-is colon c, ← drop-drop (trimStart n) inner s, d, drop-append-le (trimStart n) n (tail ++ gt ∷ rest) (start-le n), take-append-le (trimEnd (drop (trimStart n) n)) (drop (trimStart n) n) (tail ++ gt ∷ rest) (end-le (drop (trimStart n) n)))
 
-  pub tag-missing : Without colon t → kindOf (trimmed t) ≡ FieldName → tagAt s at ≡ Refused (MissingLength (inner + nameAt t) (nameLength t))
+  pub name-is : (n tail : List ℕ) → Cut colon t n → t ≡ n ++ tail → take (nameLength t) (drop (namePlace inner t) s) ≡ trimmed n
+  unfolding namePlace
+  name-is n tail c f = by (eqb (nameLength t) 0) refl
+    where
+      by : (z : Bool) → eqb (nameLength t) 0 ≡ z → take (nameLength t) (drop (pick z 0 (inner + nameAt t)) s) ≡ trimmed n
+      by false e = stands n tail c f
+      by true e =
+          let none : nameLength t ≡ 0 = eqb-true (nameLength t) 0 e in
+          let empty : [] ≡ trimmed n = rw none at (stands n tail c f) in
+          rw none empty
+
+  pub tag-missing : Without colon t → kindOf (trimmed t) ≡ FieldName → tagAt s at ≡ Refused (MissingLength (namePlace inner t) (nameLength t))
   unfolding byKind colonAt
   tag-missing w e = by-name t FieldName (all w) e ∙ simp (front-none colon t w, le-ltb (length t) (length t) (omega arith))
 
@@ -107,15 +119,15 @@ module _ (s : List ℕ) (at : ℕ) (t rest : List ℕ) (T : Tagged (drop at s) t
     unfolding lengthAfter colonAt
     length-is = rw (after, cut-is colon (z .cut))
 
-    pub by-length : tagAt s at ≡ valueOf s (inner + nameAt t) (nameLength t) next (unsignedOf (trimmed l))
+    pub by-length : tagAt s at ≡ valueOf s (namePlace inner t) (nameLength t) next (unsignedOf (trimmed l))
     unfolding byKind
     by-length = by-name n FieldName first e ∙ simp (colon-is, lt-ltb (length n) (length t) within, length-is)
 
-    pub tag-bad : unsignedOf (trimmed l) ≡ Not → tagAt s at ≡ Refused (BadLength (inner + nameAt t) (nameLength t))
+    pub tag-bad : unsignedOf (trimmed l) ≡ Not → tagAt s at ≡ Refused (BadLength (namePlace inner t) (nameLength t))
     unfolding valueOf
     tag-bad q = by-length ∙ rw q
 
-    pub tag-truncated : (k : ℕ) → unsignedOf (trimmed l) ≡ Is k → length rest < k → tagAt s at ≡ Refused (TruncatedValue (inner + nameAt t) (nameLength t) k (length rest))
+    pub tag-truncated : (k : ℕ) → unsignedOf (trimmed l) ≡ Is k → length rest < k → tagAt s at ≡ Refused (TruncatedValue (namePlace inner t) (nameLength t) k (length rest))
     unfolding valueOf
     tag-truncated k q h = by-length ∙ simp (q, left, lt-leb k (length rest) h)
 
@@ -129,7 +141,7 @@ module _ (s : List ℕ) (at : ℕ) (t rest : List ℕ) (T : Tagged (drop at s) t
       pub value-is : take (length v) (drop next s) ≡ v
       value-is = rw (drop-next, f) (take-at v more (length v) refl)
 
-      by-byte : tagAt s at ≡ pick (cont (getD s (next + length v) 0)) (Refused (NonUtf8 (inner + nameAt t) (nameLength t))) (Field (inner + nameAt t) (nameLength t) next (length v))
+      by-byte : tagAt s at ≡ pick (cont (getD s (next + length v) 0)) (Refused (NonUtf8 (namePlace inner t) (nameLength t))) (Field (namePlace inner t) (nameLength t) next (length v))
       unfolding valueOf
       by-byte = by-length ∙ simp (q, left, le-leb (length v) (length rest) (omega (arith, ap length f, length-append v more)))
 
@@ -137,16 +149,16 @@ module _ (s : List ℕ) (at : ℕ) (t rest : List ℕ) (T : Tagged (drop at s) t
         test : utf8 v ≡ pick (cont (getD s (next + length v) 0)) false true
         test = sym (ap utf8 value-is) ∙ value-test s u (inner + length t) (omega (arith, next-in)) closing (length v) more-in
 
-        pub tag-torn : utf8 v ≡ false → tagAt s at ≡ Refused (NonUtf8 (inner + nameAt t) (nameLength t))
+        pub tag-torn : utf8 v ≡ false → tagAt s at ≡ Refused (NonUtf8 (namePlace inner t) (nameLength t))
         tag-torn c = by-byte ∙ by (cont (getD s (next + length v) 0)) (sym test ∙ c)
           where
-            by : (b : Bool) → pick b false true ≡ false → pick b (Refused (NonUtf8 (inner + nameAt t) (nameLength t))) (Field (inner + nameAt t) (nameLength t) next (length v)) ≡ Refused (NonUtf8 (inner + nameAt t) (nameLength t))
+            by : (b : Bool) → pick b false true ≡ false → pick b (Refused (NonUtf8 (namePlace inner t) (nameLength t))) (Field (namePlace inner t) (nameLength t) next (length v)) ≡ Refused (NonUtf8 (namePlace inner t) (nameLength t))
             by true p = refl
             by false p = absurd (let y : _≡_ {A = ℕ} 0 1 = cc in omega arith)
 
-        pub tag-field : utf8 v ≡ true → tagAt s at ≡ Field (inner + nameAt t) (nameLength t) next (length v)
+        pub tag-field : utf8 v ≡ true → tagAt s at ≡ Field (namePlace inner t) (nameLength t) next (length v)
         tag-field c = by-byte ∙ by (cont (getD s (next + length v) 0)) (sym test ∙ c)
           where
-            by : (b : Bool) → pick b false true ≡ true → pick b (Refused (NonUtf8 (inner + nameAt t) (nameLength t))) (Field (inner + nameAt t) (nameLength t) next (length v)) ≡ Field (inner + nameAt t) (nameLength t) next (length v)
+            by : (b : Bool) → pick b false true ≡ true → pick b (Refused (NonUtf8 (namePlace inner t) (nameLength t))) (Field (namePlace inner t) (nameLength t) next (length v)) ≡ Field (namePlace inner t) (nameLength t) next (length v)
             by true p = absurd (let y : _≡_ {A = ℕ} 0 1 = cc in omega arith)
             by false p = refl

@@ -13,7 +13,7 @@ use Rattle.letters.specs.Same.{sameRaised}
 use Rattle.decimal.specs.Decimal.{digitsAfter, digitsOf, leads, unsignedOf}
 use Rattle.refusals.specs.Refusals.{ofText}
 use Rattle.refusals.specs.declared.Refusal.the-variants.{FewRows}
-use Rattle.tags.specs.Tags.{kindOf, colonAt, nameAt, nameLength, nameOf, lengthAfter, valueOf, byKind, tagOf, closedAt, openAt, tagAt}
+use Rattle.tags.specs.Tags.{kindOf, colonAt, nameAt, nameLength, namePlace, nameOf, lengthAfter, valueOf, byKind, tagOf, closedAt, openAt, tagAt}
 use Rattle.adif.specs.Records.{Item, eoh, eor, field, records, refused, plainly}
 use Rattle.adif.specs.Grammar.{Field, Items}
 use Rattle.adif.specs.Reading.{Row, rowName, readTags, readText}
@@ -34,9 +34,9 @@ abbrev text : List ℕ
 text = 60 ∷ 65 ∷ 58 ∷ 49 ∷ 62 ∷ 120 ∷ 60 ∷ 69 ∷ 79 ∷ 72 ∷ 62 ∷ 60 ∷ 66 ∷ 58 ∷ 49 ∷ 62 ∷ 121 ∷ 60 ∷ 69 ∷ 79 ∷ 82 ∷ 62 ∷ 60 ∷ 67 ∷ 58 ∷ 49 ∷ 62 ∷ 122 ∷ []
 
 read : readText text 10 ≡ records (((12 ∷ 1 ∷ 16 ∷ 1 ∷ []) ∷ []) ∷ ((23 ∷ 1 ∷ 27 ∷ 1 ∷ []) ∷ []) ∷ [])
-unfolding lead ends other run space1 space2 space3 space80 spaceLen spaceBack width trimStart trimEnd trimmed charLen longChar second3 second4 validUpTo raised sameRaised digitsAfter digitsOf leads unsignedOf ofText kindOf colonAt nameAt nameLength nameOf lengthAfter valueOf byKind tagOf closedAt openAt tagAt rowName readTags readText
+unfolding lead ends other run space1 space2 space3 space80 spaceLen spaceBack width trimStart trimEnd trimmed charLen longChar second3 second4 validUpTo raised sameRaised digitsAfter digitsOf leads unsignedOf ofText kindOf colonAt nameAt nameLength namePlace nameOf lengthAfter valueOf byKind tagOf closedAt openAt tagAt rowName readTags readText
 read = refl
 
 too-few : readText text 1 ≡ refused FewRows
-unfolding lead ends other run space1 space2 space3 space80 spaceLen spaceBack width trimStart trimEnd trimmed charLen longChar second3 second4 validUpTo raised sameRaised digitsAfter digitsOf leads unsignedOf ofText kindOf colonAt nameAt nameLength nameOf lengthAfter valueOf byKind tagOf closedAt openAt tagAt rowName readTags readText
+unfolding lead ends other run space1 space2 space3 space80 spaceLen spaceBack width trimStart trimEnd trimmed charLen longChar second3 second4 validUpTo raised sameRaised digitsAfter digitsOf leads unsignedOf ofText kindOf colonAt nameAt nameLength namePlace nameOf lengthAfter valueOf byKind tagOf closedAt openAt tagAt rowName readTags readText
 too-few = refl

@@ -5,8 +5,8 @@ use Prim.Native.Nat.{ℕ, _+_, _-_, _^_, _≤_, _<_}
 use native.Mathlib.Omega.{arith}
 use mathlib.Core.List.{List}
 use lib.ListN.{length, getD, take, drop, length-take, length-drop}
-use lib.Dec.{leb, ltb}
-use borrow.Author.Tests.{ltb-true, leb-true}
+use lib.Dec.{eqb, leb, ltb}
+use borrow.Author.Tests.{eqb-true, ltb-true, leb-true}
 use Rattle.text.specs.Pick.{pick}
 use Rattle.text.specs.Walk.{ends}
 use Rattle.text.specs.Find.{other}
@@ -15,7 +15,7 @@ use Rattle.text.specs.Utf8.{cont}
 use Rattle.text.proofs.SpaceLaws.{start-le, end-le}
 use Rattle.decimal.specs.declared.Unsigned.{Unsigned}
 use Rattle.decimal.specs.declared.Unsigned.the-variants.{Is, Not}
-use Rattle.tags.specs.Tags.{lt, gt, colonAt, nameAt, nameLength, nameOf, kindOf, lengthAfter, valueOf, byKind, tagOf, closedAt, openAt, tagAt}
+use Rattle.tags.specs.Tags.{lt, gt, colonAt, nameAt, nameLength, namePlace, nameOf, kindOf, lengthAfter, valueOf, byKind, tagOf, closedAt, openAt, tagAt}
 use Rattle.tags.specs.Ahead.{Ahead}
 use Rattle.tags.specs.declared.Kind.{Kind}
 use Rattle.tags.specs.declared.Kind.the-variants.{EndOfHeader, EndOfRecord, EndOfFile, FieldName}
@@ -36,6 +36,14 @@ name-in t =
     let w : List ℕ = take (colonAt t) t in
     omega (arith, length-take (colonAt t) t, length-drop (trimStart w) w, start-le w, end-le (drop (trimStart w) w))
 
+place-in : (a : ℕ) (t : List ℕ) → namePlace a t + nameLength t ≤ a + length t
+unfolding namePlace
+place-in a t = by (eqb (nameLength t) 0) refl
+  where
+    by : (z : Bool) → eqb (nameLength t) 0 ≡ z → pick z 0 (a + nameAt t) + nameLength t ≤ a + length t
+    by true e = omega (arith, eqb-true (nameLength t) 0 e)
+    by false e = omega (arith, name-in t)
+
 module _ (s : List ℕ) (at next : ℕ) (p : at < next) (q : next ≤ length s) where
   value-ahead : (a k : ℕ) → a + k ≤ length s → (num : Unsigned) → Ahead s at (valueOf s a k next num)
   unfolding valueOf
@@ -52,7 +60,7 @@ module _ (s : List ℕ) (at next : ℕ) (p : at < next) (q : next ≤ length s) 
   kind-ahead a t m EndOfFile = tt
   kind-ahead a t m FieldName =
       pick-elim (Ahead s at) (ltb (colonAt t) (length t)) _ _
-      (λ _. value-ahead (a + nameAt t) (nameLength t) (omega (arith, name-in t)) (lengthAfter t (colonAt t)))
+      (λ _. value-ahead (namePlace a t) (nameLength t) (omega (arith, place-in a t)) (lengthAfter t (colonAt t)))
       (λ _. tt)
 
 closed-ahead : (s : List ℕ) (at a e : ℕ) → at < a → a ≤ e → Ahead s at (closedAt s a e)

@@ -7,8 +7,9 @@ use mathlib.Core.List.{List}
 use lib.ListN.{length, getD, take, drop, length-take, length-drop}
 use mir.Syntax.{w64}
 use mir.Val.{Fits}
-use borrow.Author.Tests.{le-leb, lt-leb, lt-ltb, le-ltb}
-use Rattle.text.specs.Pick.{within}
+use lib.Dec.{eqb}
+use borrow.Author.Tests.{eq-eqb, ne-eqb, le-leb, lt-leb, lt-ltb, le-ltb}
+use Rattle.text.specs.Pick.{pick, within}
 use Rattle.text.specs.Walk.{lead, ends}
 use Rattle.text.specs.Find.{other}
 use Rattle.text.specs.Space.{trimStart, trimEnd, trimmed}
@@ -18,7 +19,7 @@ use Rattle.decimal.specs.Decimal.{unsignedOf}
 use Rattle.decimal.specs.declared.Unsigned.{Unsigned}
 use Rattle.decimal.specs.declared.Unsigned.the-variants.{Is, Not}
 use Rattle.refusals.specs.declared.Refusal.the-variants.{UnterminatedTag, MissingLength, BadLength, TruncatedValue, NonUtf8}
-use Rattle.tags.specs.Tags.{lt, gt, colon, eoh, eor, eof, kindOf, colonAt, nameAt, nameLength, nameOf, lengthAfter, valueOf, byKind, tagOf, closedAt, openAt, tagAt}
+use Rattle.tags.specs.Tags.{lt, gt, colon, eoh, eor, eof, kindOf, colonAt, nameAt, nameLength, namePlace, nameOf, lengthAfter, valueOf, byKind, tagOf, closedAt, openAt, tagAt}
 use Rattle.tags.specs.declared.Kind.{Kind}
 use Rattle.tags.specs.declared.Kind.the-variants.{EndOfHeader, EndOfRecord, EndOfFile, FieldName}
 use Rattle.tags.specs.declared.Tag.{Tag}
@@ -71,6 +72,13 @@ module _ (s : List ℕ) (a k next : ℕ) (num : Unsigned) where
       unfolding valueOf
       value-whole y = simp (e, le-leb n (length s - next) h, ← f, ← g, y)
 
+-- an empty name is at place 0
+pub place-empty : (at n : ℕ) → n ≡ 0 → 0 ≡ pick (eqb n 0) 0 at
+place-empty at n e = rw (eq-eqb n 0 e) refl
+
+pub place-kept : (at n : ℕ) → (n ≡ 0 → ⊥) → at ≡ pick (eqb n 0) 0 at
+place-kept at n e = rw (ne-eqb n 0 e) refl
+
 -- a tag, by its inside t
 module _ (s : List ℕ) (a : ℕ) (t : List ℕ) (next c i n : ℕ) (k : Kind) (ec : c ≡ ends (other colon) t 0) (ei : i ≡ trimStart (take c t))
     (en : n ≡ trimEnd (take (length (take c t) - i) (drop i (take c t))))
@@ -91,13 +99,22 @@ module _ (s : List ℕ) (a : ℕ) (t : List ℕ) (next c i n : ℕ) (k : Kind) (
   unfolding tagOf byKind
   tag-eof e = rw (kind-is, e)
 
-  pub tag-missing : k ≡ FieldName → length t ≤ c → Refused (MissingLength (a + i) n) ≡ tagOf s a t next
-  unfolding tagOf byKind nameLength nameAt colonAt
-  tag-missing e h = rw (kind-is, e) (simp (← ec, le-ltb c (length t) h, ← ei) (rw (en, rest)))
+  length-is : n ≡ nameLength t
+  unfolding nameLength nameAt colonAt
+  length-is = simp (← ec, ← ei) (rw (en, rest))
 
-  pub tag-field : (num : Unsigned) (r : Tag) → k ≡ FieldName → c < length t → num ≡ lengthAfter t c → r ≡ valueOf s (a + i) n next num → r ≡ tagOf s a t next
-  unfolding tagOf byKind nameLength nameAt colonAt
-  tag-field num r e h f g = rw (kind-is, e) (simp (← ec, lt-ltb c (length t) h, ← ei, ← f) (g ∙ rw (en, rest)))
+  place-is : (m : ℕ) → m ≡ pick (eqb n 0) 0 (a + i) → m ≡ namePlace a t
+  unfolding namePlace nameAt colonAt
+  place-is m em = em ∙ rw (← length-is) (simp (← ec, ← ei))
+
+  pub tag-missing : (m : ℕ) → m ≡ pick (eqb n 0) 0 (a + i) → k ≡ FieldName → length t ≤ c → Refused (MissingLength m n) ≡ tagOf s a t next
+  unfolding tagOf byKind colonAt
+  tag-missing m em e h = rw (kind-is, e) (simp (← ec, le-ltb c (length t) h) (rw (place-is m em, length-is) refl))
+
+  pub tag-field : (m : ℕ) (num : Unsigned) (r : Tag) → m ≡ pick (eqb n 0) 0 (a + i) → k ≡ FieldName → c < length t → num ≡ lengthAfter t c
+      → r ≡ valueOf s m n next num → r ≡ tagOf s a t next
+  unfolding tagOf byKind colonAt
+  tag-field m num r em e h f g = rw (kind-is, e) (simp (← ec, lt-ltb c (length t) h, ← f) (g ∙ rw (place-is m em, length-is) refl))
 
 pub name-fits : (s : List ℕ) (a e c i : ℕ) → a ≤ e → e < length s → length s < 2 ^ 64 → i ≤ length (take c (take (e - a) (drop a s))) → Fits w64 (a + i)
 name-fits s a e c i p q l h =

@@ -3,7 +3,7 @@ use Prim.Native.Nat.{ℕ, _+_, _-_}
 use mathlib.Core.Bool.{Bool}
 use mathlib.Core.List.{List, [], _∷_}
 use lib.ListN.{length, getD, take, drop}
-use lib.Dec.{ltb, leb}
+use lib.Dec.{ltb, leb, eqb}
 use Rattle.text.specs.Pick.{pick}
 use Rattle.text.specs.Walk.{ends}
 use Rattle.text.specs.Find.{other}
@@ -47,12 +47,16 @@ kindOf name =
 unfoldable pub colonAt : List ℕ → ℕ
 colonAt t = ends (other colon) t 0
 
--- of the inside t of a tag: where its name starts, the name's length, and the name
+-- of the inside t of a tag: where its name starts, and the name's length
 unfoldable pub nameAt : List ℕ → ℕ
 nameAt t = trimStart (take (colonAt t) t)
 
 unfoldable pub nameLength : List ℕ → ℕ
 nameLength t = trimEnd (drop (nameAt t) (take (colonAt t) t))
+
+-- where the name stands in the text, in which the inside starts at a; an empty name is at place 0
+unfoldable pub namePlace : ℕ → List ℕ → ℕ
+namePlace a t = pick (eqb (nameLength t) 0) 0 (a + nameAt t)
 
 unfoldable pub nameOf : List ℕ → List ℕ
 nameOf t = trimmed (take (colonAt t) t)
@@ -74,8 +78,8 @@ byKind s a t next EndOfHeader = Eoh next
 byKind s a t next EndOfRecord = Eor next
 byKind s a t next EndOfFile = Eof
 byKind s a t next FieldName =
-    pick (ltb (colonAt t) (length t)) (valueOf s (a + nameAt t) (nameLength t) next (lengthAfter t (colonAt t)))
-    (Refused (MissingLength (a + nameAt t) (nameLength t)))
+    pick (ltb (colonAt t) (length t)) (valueOf s (namePlace a t) (nameLength t) next (lengthAfter t (colonAt t)))
+    (Refused (MissingLength (namePlace a t) (nameLength t)))
 
 unfoldable pub tagOf : List ℕ → ℕ → List ℕ → ℕ → Tag
 tagOf s a t next = byKind s a t next (kindOf (nameOf t))

@@ -3,6 +3,8 @@
 ghost use mathlib.Core.Path.{_≡_};
 ghost use Prim.Native.Nat.{_+_, _-_, _≤_, _<_};
 ghost use lib.ListN.{length, take, drop};
+ghost use lib.Dec.{eqb};
+ghost use Rattle.text.specs.Pick.{pick};
 ghost use Rattle.tags.specs.Tags.{kindOf, lengthAfter, valueOf, tagOf, tagAt};
 use decimal::Unsigned;
 use refusals::Refusal;
@@ -93,6 +95,13 @@ fn value_of(s: &[u8], name: usize, size: usize, next: usize, number: Unsigned) -
     }
 }
 
+// Where a name of n bytes stands: an empty one at place 0.
+fn name_place(at: usize, n: usize) -> usize
+    ensures { λ r. ⌜ r ≡ pick (eqb n 0) 0 at ⌝ }
+{
+    if n == 0 { 0 } else { at }
+}
+
 // The tag whose inside is s[a..gt].
 fn tag_of(s: &[u8], a: usize, gt: usize) -> Tag
     requires { ⌜ (a ≤ gt) × (gt < length (now s)) ⌝ }
@@ -103,9 +112,9 @@ fn tag_of(s: &[u8], a: usize, gt: usize) -> Tag
     let c = text::find(t, 0, b':');
     let w = &t[..c];
     let i = text::space::trim_start(w);
-    let name = a + i;
     let rest = &w[i..];
     let n = text::space::trim_end(rest);
+    let name = name_place(a + i, n);
     let k = kind_of(&rest[..n]);
     match k {
         Kind::EndOfHeader => Tag::Eoh(next),

@@ -25,9 +25,6 @@ slice-aggregate-w c = search (needs, length-take-le)
 trim-start-requires : tie.Need-trim-start-requires
 trim-start-requires c κs = search needs
 
-add-name : tie.Need-add-name
-add-name c = search name-fits
-
 sub-rest : tie.Need-sub-rest
 sub-rest c = search needs
 
@@ -42,6 +39,12 @@ trim-end-requires c κs = search needs
 
 slice-aggregate-kind-of : tie.Need-slice-aggregate-kind-of
 slice-aggregate-kind-of c = search (needs, length-take-le)
+
+add-name-place : tie.Need-add-name-place
+add-name-place c = search name-fits
+
+name-place-requires : tie.Need-name-place-requires
+name-place-requires c κs = search needs
 
 kind-of-requires : tie.Need-kind-of-requires
 kind-of-requires c κs = search needs
@@ -90,11 +93,12 @@ tag-of-spec =
     find-requires
     slice-aggregate-w
     trim-start-requires
-    add-name
     sub-rest
     part-rest-start
     part-rest-end
     trim-end-requires
+    add-name-place
+    name-place-requires
     slice-aggregate-kind-of
     kind-of-requires
     enum-told
