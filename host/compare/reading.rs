@@ -71,7 +71,11 @@ fn records(text: &str, room: usize) -> Result<Vec<Record>, ReadAnswer> {
         let inside = &text[open..end];
         at = end + 1;
         let (written, rest) = inside.split_once(':').map_or((inside, None), |(name, rest)| (name, Some(rest)));
-        let name = (open + written.len() - written.trim_start().len(), written.trim().len());
+        // an empty name is at place 0
+        let name = match written.trim().len() {
+            0 => (0, 0),
+            length => (open + written.len() - written.trim_start().len(), length),
+        };
         let raised = written.trim().to_ascii_uppercase();
         let refused = |number| ReadAnswer { name: name.0, name_length: name.1, ..answer(number) };
         match raised.as_str() {
