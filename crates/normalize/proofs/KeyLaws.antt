@@ -14,7 +14,7 @@ use Rattle.text.specs.Pick.{pick, both, within}
 use Rattle.letters.specs.Capitals.{raised, capitals}
 use Rattle.letters.specs.Same.{same, sameRaised}
 use Rattle.letters.proofs.SameLaws.{same-refl, same-raised-true}
-use Rattle.normalize.specs.Table.{firstFrom, named, digits, keyOf, Bytes}
+use Rattle.normalize.specs.Table.{firstFrom, named, digits, keyOf, Bytes, Keyed}
 use Rattle.normalize.specs.declared.Found.{Found}
 use Rattle.normalize.specs.declared.Found.the-variants.{At, Nothing}
 use Rattle.normalize.proofs.Tested.{both-left, both-right, all}
@@ -128,9 +128,9 @@ keys-from x h i (n ∷ ns) t =
     in
     rw (e, keys-from x h (suc i) ns (both-right (isShort n) (all isShort ns) t)) refl
 
-pub keys-named : (x : List ℕ) (ns : List (List ℕ)) (r : Found) → all isShort ns ≡ true → (r ≡ firstFrom (eqb (keyOf x)) 0 (map keyOf ns)) × Bytes x → r ≡ named x ns
-unfolding named
-keys-named x ns r t p = p .0 ∙ keys-from x (p .1) 0 ns t
+pub keys-named : (x : List ℕ) (k : ℕ) (ns : List (List ℕ)) → all isShort ns ≡ true → Keyed x k → firstFrom (eqb k) 0 (map keyOf ns) ≡ named x ns
+unfolding named Keyed
+keys-named x k ns t p = ap (λ (n : ℕ). firstFrom (eqb n) 0 (map keyOf ns)) (p .0) ∙ keys-from x (p .1) 0 ns t
 
 -- ---- the loop that makes a key: what is left gives the same number, and k is small enough to go on
 abbrev pub limit : ℕ → ℕ

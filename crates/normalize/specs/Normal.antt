@@ -9,7 +9,7 @@ use Rattle.text.specs.Pick.{pick, both, either}
 use Rattle.text.specs.Space.{trimStart, trimmed}
 use Rattle.letters.specs.Capitals.{capitals}
 use Rattle.letters.specs.Same.{same}
-use Rattle.normalize.specs.Table.{firstFrom, named}
+use Rattle.normalize.specs.Table.{firstFrom, named, keyOf}
 use Rattle.normalize.specs.Modes.{Known, modeNames, submodes, aliases}
 use Rattle.normalize.specs.Place.{absent, inCapitals, modeEntry, inText, part}
 use Rattle.normalize.specs.declared.Found.{Found}
@@ -94,6 +94,16 @@ entryAt ns Nothing = absent
 
 abbrev pub names : List Known → List (List ℕ)
 names rows = map (λ (r : Known). r .name) rows
+
+-- the entry of the mode that goes with a key, or absent
+abbrev pub entryOfKey : List Known → ℕ → Place
+entryOfKey rows k = entryAt (modeNumbers rows) (firstFrom (eqb k) 0 (map keyOf (names rows)))
+
+unfoldable pub parentOfKey : ℕ → Place
+parentOfKey k = entryOfKey submodes k
+
+unfoldable pub aliasOfKey : ℕ → Place
+aliasOfKey k = entryOfKey aliases k
 
 -- the entry of the mode that goes with a text, or absent
 unfoldable pub parentEntry : List ℕ → Place

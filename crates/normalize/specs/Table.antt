@@ -55,3 +55,7 @@ keyOf xs = pick (ltb 7 (length xs)) 0 (digits 1 xs)
 -- every element is a byte
 unfoldable pub Bytes : List ℕ → Type 0
 Bytes xs = (k : ℕ) → getD xs k 0 < 256
+
+-- k is the key of the text, whose elements are bytes
+unfoldable pub Keyed : List ℕ → ℕ → Type 0
+Keyed xs k = (k ≡ keyOf xs) × Bytes xs

@@ -10,8 +10,9 @@ ghost use Rattle.normalize.specs.Place.{bandPlace};
 use super::Found;
 use super::Place;
 use super::Span;
-use super::keyed_in;
+use super::first_key;
 use super::places;
+use super::text_key;
 
 const LOW: [u64; 19] = [
     135_700,
@@ -141,7 +142,7 @@ pub fn band_for_freq_hz(hz: u64) -> Place
 fn find_band(band: &[u8]) -> Found
     ensures { λ r. ⌜ r ≡ bandNamed (now (band .entry)) ⌝ }
 {
-    keyed_in(&KEYS, text::space::trim(band))
+    first_key(&KEYS, text_key(text::space::trim(band)))
 }
 
 // The entry of the band that the text names, so that "40M" is "40m". Absent if it names none: the caller leaves it alone.

@@ -4,7 +4,7 @@ ghost use Prim.Native.Nat.{_≤_};
 ghost use lib.ListN.{length, getD, take};
 ghost use Rattle.letters.specs.Same.{sameRaised};
 ghost use lib.Dec.{eqb};
-ghost use Rattle.normalize.specs.Table.{Columns, Bytes, cut, firstFrom, keyOf, named};
+ghost use Rattle.normalize.specs.Table.{Columns, Keyed, cut, firstFrom, keyOf, named};
 ghost use Rattle.normalize.specs.Place.{noName, nameAt};
 
 pub mod bands;
@@ -135,7 +135,14 @@ fn key(text: &[u8]) -> u64
     k
 }
 
-// The first entry with that key.
+// The same, with what tells texts apart by their keys.
+fn text_key(text: &[u8]) -> u64
+    ensures { λ r. ⌜ Keyed (now (text .entry)) r ⌝ }
+{
+    key(text)
+}
+
+// The first entry with that key: a compare chain, where names of bytes would be laid on the stack.
 fn first_key(keys: &[u64], k: u64) -> Found
     requires { ⌜ length (now keys) ≤ 255 ⌝ }
     ensures { λ r. ⌜ r ≡ firstFrom (eqb k) 0 (now (keys .entry)) ⌝ }
@@ -148,12 +155,4 @@ fn first_key(keys: &[u64], k: u64) -> Found
         i += 1;
     }
     Found::Nothing
-}
-
-// The first entry whose key is that of the text: a compare chain, where names of bytes would be laid on the stack.
-fn keyed_in(keys: &[u64], text: &[u8]) -> Found
-    requires { ⌜ length (now keys) ≤ 255 ⌝ }
-    ensures { λ r. ⌜ (r ≡ firstFrom (eqb (keyOf (now (text .entry)))) 0 (now (keys .entry))) × Bytes (now (text .entry)) ⌝ }
-{
-    first_key(keys, key(text))
 }

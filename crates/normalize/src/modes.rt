@@ -2,13 +2,14 @@
 ghost use mathlib.Core.Path.{_≡_};
 ghost use Prim.Native.Nat.{_≤_};
 ghost use lib.ListN.{length, getD};
-ghost use Rattle.normalize.specs.Normal.{entryAt, parentEntry, aliasEntry, aliasedPlace, splitPlace, normalPlaces};
+ghost use Rattle.normalize.specs.Normal.{entryAt, parentOfKey, aliasOfKey, parentEntry, aliasedPlace, splitPlace, normalPlaces};
 use super::Found;
 use super::ModePair;
 use super::Place;
-use super::keyed_in;
+use super::first_key;
 use super::number_at;
 use super::places;
+use super::text_key;
 
 pub const NAMES: [[u8; 12]; 31] = [
     *b"SSB\0\0\0\0\0\0\0\0\0",
@@ -119,32 +120,39 @@ fn mode_at(numbers: &[u32], f: Found) -> Place
     }
 }
 
+fn parent_of_key(k: u64) -> Place
+    ensures { λ r. ⌜ r ≡ parentOfKey k ⌝ }
+{
+    mode_at(&PARENTS, first_key(&SUBMODES, k))
+}
+
+fn alias_of_key(k: u64) -> Place
+    ensures { λ r. ⌜ r ≡ aliasOfKey k ⌝ }
+{
+    mode_at(&ALIASED, first_key(&ALIASES, k))
+}
+
 fn parent_of_submode(sm: &[u8]) -> Place
     ensures { λ r. ⌜ r ≡ parentEntry (now (sm .entry)) ⌝ }
 {
-    mode_at(&PARENTS, keyed_in(&SUBMODES, sm))
-}
-
-fn alias_of_mode(mode: &[u8]) -> Place
-    ensures { λ r. ⌜ r ≡ aliasEntry (now (mode .entry)) ⌝ }
-{
-    mode_at(&ALIASED, keyed_in(&ALIASES, mode))
+    parent_of_key(text_key(sm))
 }
 
 fn alias_mode(text: &[u8], m: Place) -> Place
     ensures { λ r. ⌜ r ≡ aliasedPlace (now (text .entry)) m ⌝ }
 {
-    places::or_else(alias_of_mode(places::part(text, m)), m)
+    places::or_else(alias_of_key(text_key(places::part(text, m))), m)
 }
 
 // No submode: the mode may be a submode itself, which is common.
 fn split_mode(text: &[u8], m: Place) -> ModePair
     ensures { λ r. ⌜ r ≡ splitPlace (now (text .entry)) m ⌝ }
 {
-    let parent = parent_of_submode(places::part(text, m));
+    let k = text_key(places::part(text, m));
+    let parent = parent_of_key(k);
     if places::is_absent(parent) {
         return ModePair {
-            mode: alias_mode(text, m),
+            mode: places::or_else(alias_of_key(k), m),
             submode: places::absent(),
         };
     }

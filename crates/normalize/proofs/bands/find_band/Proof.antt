@@ -9,19 +9,22 @@ use borrow.Author.Needs.{needs}
 use Rattle.normalize.proofs.bands.find_band.Statement.{statement}
 use Rattle.normalize.proofs.bands.find_band.Tie as tie
 
-slice-aggregate-keyed-in : tie.Need-slice-aggregate-keyed-in
-slice-aggregate-keyed-in c = search needs
+slice-aggregate-first-key : tie.Need-slice-aggregate-first-key
+slice-aggregate-first-key c = search needs
 
 trim-requires : tie.Need-trim-requires
 trim-requires c κs = search needs
 
-keyed-in-requires : tie.Need-keyed-in-requires
-keyed-in-requires c κs = search needs
+text-key-requires : tie.Need-text-key-requires
+text-key-requires c κs = search needs
+
+first-key-requires : tie.Need-first-key-requires
+first-key-requires c κs = search needs
 
 returns : tie.Need-returns
 unfolding bandNamed bandNames bands keyOf raised
-returns c = keys-named _ bandNames _ refl (c .keyed-in .ensures) ∙ ap (λ (x : List ℕ). named x bandNames) (c .before .trim .ensures)
+returns c = c .first-key .ensures ∙ keys-named _ _ bandNames refl (c .before .text-key .ensures) ∙ ap (λ (x : List ℕ). named x bandNames) (c .before .before .trim .ensures)
 
 pub find-band-spec : {M : Type 1} → statement M
 find-band-spec =
-    tie.close (tie.spec slice-aggregate-keyed-in trim-requires keyed-in-requires returns)
+    tie.close (tie.spec slice-aggregate-first-key trim-requires text-key-requires first-key-requires returns)
