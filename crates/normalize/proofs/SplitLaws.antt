@@ -3,14 +3,14 @@ use mathlib.Core.Path.{_≡_, refl, ap, _∙_}
 use mathlib.Core.Bool.{Bool, true, false}
 use mathlib.Core.List.{List}
 use Prim.Native.Nat.{ℕ}
-use Rattle.normalize.specs.Table.{Keyed}
+use Rattle.tables.specs.Table.{Keyed}
 use Rattle.normalize.specs.Modes.{submodes, aliases}
-use Rattle.normalize.specs.Place.{absent, part}
-use Rattle.normalize.specs.Normal.{tidy, isAbsent, isEmpty, orElse, entryAt, modeNumbers, names, parentOfKey, aliasOfKey, parentEntry, aliasEntry, aliasedPlace, splitPlace, normalPlaces}
-use Rattle.normalize.specs.declared.Found.{Found}
-use Rattle.normalize.specs.declared.Place.{Place}
+use Rattle.tables.specs.Place.{absent, part, tidy, isAbsent, isEmpty, orElse}
+use Rattle.normalize.specs.Normal.{entryAt, modeNumbers, names, parentOfKey, aliasOfKey, parentEntry, aliasEntry, aliasedPlace, splitPlace, normalPlaces}
+use Rattle.tables.specs.declared.Found.{Found}
+use Rattle.tables.specs.declared.Place.{Place}
 use Rattle.normalize.specs.declared.ModePair.{ModePair}
-use Rattle.normalize.proofs.KeyLaws.{keys-named}
+use Rattle.tables.proofs.KeyLaws.{keys-named}
 
 -- k is the key of x
 module _ (x : List ℕ) (k : ℕ) (ek : Keyed x k) where

@@ -3,81 +3,13 @@ ghost use mathlib.Core.Path.{_≡_};
 ghost use Prim.Native.Nat.{_≤_};
 ghost use lib.ListN.{length, getD};
 ghost use Rattle.normalize.specs.Normal.{entryAt, parentOfKey, aliasOfKey, parentEntry, aliasedPlace, splitPlace, normalPlaces};
-use super::Found;
 use super::ModePair;
-use super::Place;
-use super::first_key;
-use super::number_at;
-use super::places;
-use super::text_key;
-
-pub const NAMES: [[u8; 12]; 31] = [
-    *b"SSB\0\0\0\0\0\0\0\0\0",
-    *b"AM\0\0\0\0\0\0\0\0\0\0",
-    *b"FM\0\0\0\0\0\0\0\0\0\0",
-    *b"DIGITALVOICE",
-    *b"CW\0\0\0\0\0\0\0\0\0\0",
-    *b"FT8\0\0\0\0\0\0\0\0\0",
-    *b"MFSK\0\0\0\0\0\0\0\0",
-    *b"JT65\0\0\0\0\0\0\0\0",
-    *b"JT9\0\0\0\0\0\0\0\0\0",
-    *b"JT4\0\0\0\0\0\0\0\0\0",
-    *b"Q65\0\0\0\0\0\0\0\0\0",
-    *b"FSK441\0\0\0\0\0\0",
-    *b"ISCAT\0\0\0\0\0\0\0",
-    *b"MSK144\0\0\0\0\0\0",
-    *b"PSK\0\0\0\0\0\0\0\0\0",
-    *b"RTTY\0\0\0\0\0\0\0\0",
-    *b"OLIVIA\0\0\0\0\0\0",
-    *b"CONTESTIA\0\0\0",
-    *b"DOMINO\0\0\0\0\0\0",
-    *b"THOR\0\0\0\0\0\0\0\0",
-    *b"THRB\0\0\0\0\0\0\0\0",
-    *b"MT63\0\0\0\0\0\0\0\0",
-    *b"HELL\0\0\0\0\0\0\0\0",
-    *b"ARDOP\0\0\0\0\0\0\0",
-    *b"PACKET\0\0\0\0\0\0",
-    *b"PACTOR\0\0\0\0\0\0",
-    *b"VARA\0\0\0\0\0\0\0\0",
-    *b"WINMOR\0\0\0\0\0\0",
-    *b"SSTV\0\0\0\0\0\0\0\0",
-    *b"ATV\0\0\0\0\0\0\0\0\0",
-    *b"FAX\0\0\0\0\0\0\0\0\0",
-];
-
-pub const LENS: [usize; 31] = [
-    3,
-    2,
-    2,
-    12,
-    2,
-    3,
-    4,
-    4,
-    3,
-    3,
-    3,
-    6,
-    5,
-    6,
-    3,
-    4,
-    6,
-    9,
-    6,
-    4,
-    4,
-    4,
-    4,
-    5,
-    6,
-    6,
-    4,
-    6,
-    4,
-    3,
-    3,
-];
+use tables::Found;
+use tables::Place;
+use tables::first_key;
+use tables::number_at;
+use tables::places;
+use tables::text_key;
 
 // The submodes as keys: 1, then the bytes of the name.
 const SUBMODES: [u64; 10] = [

@@ -1,9 +1,10 @@
 use mathlib.Core.Path.{ap, _∙_}
 use Rattle.letters.specs.Capitals.{raised}
-use Rattle.normalize.specs.Table.{keyOf}
-use Rattle.normalize.specs.Modes.{modes, modeNames, aliases}
+use Rattle.tables.specs.Table.{keyOf}
+use Rattle.tables.specs.Modes.{modes, modeNames}
+use Rattle.normalize.specs.Modes.{aliases}
 use Rattle.normalize.specs.Normal.{entryAt, modeNumbers, aliasOfKey}
-use Rattle.normalize.specs.declared.Found.{Found}
+use Rattle.tables.specs.declared.Found.{Found}
 use borrow.Author.Needs.{needs}
 use Rattle.normalize.proofs.modes.alias_of_key.Statement.{statement}
 use Rattle.normalize.proofs.modes.alias_of_key.Tie as tie
