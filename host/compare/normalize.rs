@@ -6,6 +6,7 @@ use crate::rust;
 use original::normalize as theirs;
 use oxbreathe::normalize as ours;
 use oxbreathe::sys::{self, Classified, Place, Placed, Told};
+use std::borrow::Cow;
 
 pub fn run(run: &mut Run) {
     run.group("normalize/frequency", frequency);
@@ -61,7 +62,10 @@ fn normal(mode: &[u8], submode: Option<&[u8]>) -> Normal {
 }
 
 fn wrapped(mode: &[u8], submode: Option<&[u8]>) -> Normal {
-    ours::normalize_mode(mode, submode).map_err(|refusal| (refusal.cause.number(), refusal.place))
+    match ours::normalize_mode(mode, submode) {
+        Ok((mode, submode)) => Ok((mode.into_owned(), submode.map(Cow::into_owned))),
+        Err(refusal) => Err((refusal.cause.number(), refusal.place)),
+    }
 }
 
 // What they are compared on.

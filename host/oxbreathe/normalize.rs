@@ -2,6 +2,7 @@
 
 use crate::Refusal;
 use crate::sys::{self, Place};
+use std::borrow::Cow;
 use std::sync::LazyLock;
 
 const BAND: u32 = 3;
@@ -60,8 +61,11 @@ pub fn canonical_band(text: &[u8]) -> Result<Option<Band>, Refusal> {
     Ok(Band::at(r.entry))
 }
 
-/// ADIF's MODE and SUBMODE for a mode and a submode as they were written.
-pub fn normalize_mode(mode: &[u8], submode: Option<&[u8]>) -> Result<(String, Option<String>), Refusal> {
+/// ADIF's MODE and SUBMODE for a mode and a submode as they were written. A mode of the library's table is borrowed from it.
+pub fn normalize_mode(
+    mode: &[u8],
+    submode: Option<&[u8]>,
+) -> Result<(Cow<'static, str>, Option<Cow<'static, str>>), Refusal> {
     let own = submode.unwrap_or_default();
     let r = sys::mode_normalize(mode, own, submode.is_some());
     Refusal::told(r.refusal, r.place)?;
@@ -70,18 +74,18 @@ pub fn normalize_mode(mode: &[u8], submode: Option<&[u8]>) -> Result<(String, Op
 }
 
 /// What a place in an accepted text stands for.
-fn spelled(place: Place, text: &[u8]) -> Option<String> {
+fn spelled(place: Place, text: &[u8]) -> Option<Cow<'static, str>> {
     if place.kind == 0 {
         return None;
     }
     if place.kind == MODE {
-        return Some(MODES[place.start as usize].clone());
+        return Some(Cow::Borrowed(&MODES[place.start as usize]));
     }
     let part = &text[place.start as usize..][..place.len as usize];
     // Safe: the text was accepted as UTF-8, and trimming it cuts between characters.
     let mut part = unsafe { std::str::from_utf8_unchecked(part) }.to_string();
     part.make_ascii_uppercase();
-    Some(part)
+    Some(Cow::Owned(part))
 }
 
 /// A coarse family of modes.

@@ -1,25 +1,20 @@
 -- Laws of the classes of modes, and of what a look-up found. Assumes nothing.
 use mathlib.Core.Path.{_≡_, refl, sym, ap, _∙_}
-use mathlib.Core.Bool.{Bool, true, false}
-use mathlib.Core.List.{List, [], _∷_, map}
-use Prim.Native.Nat.{ℕ, zero, suc, _≤_, _<_}
-use native.Mathlib.Nat.{not-suc-le-zero, le-of-suc-le-suc}
-use lib.ListN.{length, getD, List·getD-map, List·getD-eq-default}
-use borrow.Author.Tests.{eq-eqb, ne-eqb}
+use mathlib.Core.List.{List, map}
+use Prim.Native.Nat.{ℕ, zero, suc}
+use lib.ListN.{length, getD, List·getD-map}
 use Rattle.text.specs.Space.{trimmed}
-use Rattle.normalize.specs.Table.{named, entry, isFound, Columns}
-use Rattle.normalize.specs.Bands.{bandNames}
-use Rattle.normalize.specs.Modes.{Mode, modes, modeNames}
+use Rattle.tables.specs.Table.{named, entry}
+use Rattle.tables.specs.Modes.{Mode, modes, modeNames}
 use Rattle.normalize.specs.Classes.{classes, classNumbered, classNumber, className, classNamed, classOf, modesIn, spanOf}
-use Rattle.normalize.specs.Place.{spelled, orEmpty, noName, nameAt, nameOf}
-use Rattle.normalize.specs.declared.Found.{Found}
-use Rattle.normalize.specs.declared.Found.the-variants.{At, Nothing}
-use Rattle.normalize.specs.declared.ModeClass.{ModeClass}
-use Rattle.normalize.specs.declared.ModeClass.the-variants.{Phone, Cw, Digital, Image}
+use Rattle.tables.specs.Place.{spelled, orEmpty, nameAt}
+use Rattle.tables.specs.declared.Found.{Found}
+use Rattle.tables.specs.declared.Found.the-variants.{At, Nothing}
+use Rattle.tables.specs.declared.ModeClass.{ModeClass}
+use Rattle.tables.specs.declared.ModeClass.the-variants.{Phone, Cw, Digital, Image}
 use Rattle.normalize.specs.declared.Classed.the-variants.{In, Unclassed}
-use Rattle.normalize.specs.declared.Name.{Name}
-use Rattle.normalize.specs.declared.Place.{Place}
-use Rattle.normalize.proofs.TableLaws.{name-at}
+use Rattle.tables.specs.declared.Name.{Name}
+use Rattle.tables.proofs.TableLaws.{name-at}
 
 -- ---- a class by its number
 module _ (n : ℕ) where
@@ -42,14 +37,6 @@ numbered-else (suc zero) a b c = absurd (a refl)
 numbered-else (suc (suc zero)) a b c = absurd (b refl)
 numbered-else (suc (suc (suc zero))) a b c = absurd (c refl)
 numbered-else (suc (suc (suc (suc n)))) a b c = refl
-
--- ---- what was found, by its cases
-module _ (f g : Found) (e : f ≡ g) where
-  pub found-at : (k : ℕ) → f ≡ At k → true ≡ isFound g
-  found-at k h = rw (← e, h) refl
-
-  pub found-none : f ≡ Nothing → false ≡ isFound g
-  found-none h = rw (← e, h) refl
 
 -- the numbers of the modes' classes, and the classes
 abbrev pub classNumbers : List ℕ
@@ -78,22 +65,6 @@ module _ (text x : List ℕ) (f : Found) (t : x ≡ trimmed text) where
     pub class-unfound : f ≡ Nothing → Unclassed ≡ classOf text
     unfolding classOf
     class-unfound h = rw (← t, ← e, h) refl
-
--- ---- entries past the end of the columns have no name
-pub no-entry : (names : List (List ℕ)) (lens : List ℕ) (k : ℕ) (r : Name) → Columns names lens → length names ≤ k → r ≡ noName → r ≡ nameAt names lens k
-unfolding nameAt
-no-entry names lens k r cs h e =
-    e ∙ rw (List·getD-eq-default names (noName .bytes) h, List·getD-eq-default lens 0 (rw (cs .alike) at h)) refl
-
-pub entry-here : (names : List (List ℕ)) (lens : List ℕ) (k : ℕ) → k < length names
-    → _≡_ {A = Name} (record { bytes = getD names k []; len = getD lens k 0 }) (nameAt names lens k)
-unfolding nameAt
-entry-here names lens k h = rw (in-range names k h) refl
-  where
-    in-range : (l : List (List ℕ)) (k : ℕ) → k < length l → getD l k [] ≡ getD l k (noName .bytes)
-    in-range [] k h = absurd (not-suc-le-zero h)
-    in-range (x ∷ xs) zero h = refl
-    in-range (x ∷ xs) (suc k) h = in-range xs k (le-of-suc-le-suc h)
 
 pub class-spelled : (c : ModeClass) (n : ℕ) (r : Name) → n ≡ classNumber c
     → r ≡ nameAt (map (λ (x : List ℕ). spelled x .bytes) (map className classes)) (map length (map className classes)) n
@@ -124,17 +95,3 @@ module _ (c : ModeClass) where
   pub span-image : c ≡ Image → record { first = 28; count = 3 } ≡ spanOf c
   unfolding spanOf modesIn modes
   span-image e = rw e refl
-
--- ---- the name of a place, by its kind
-module _ (p : Place) (r : Name) where
-  pub name-of-band : p .kind ≡ 3 → r ≡ spelled (orEmpty (entry bandNames (p .start))) → r ≡ nameOf p
-  unfolding nameOf
-  name-of-band e q = q ∙ rw (eq-eqb (p .kind) 3 e) refl
-
-  pub name-of-mode : (p .kind ≡ 3 → ⊥) → p .kind ≡ 4 → r ≡ spelled (orEmpty (entry modeNames (p .start))) → r ≡ nameOf p
-  unfolding nameOf
-  name-of-mode n e q = q ∙ rw (ne-eqb (p .kind) 3 n, eq-eqb (p .kind) 4 e) refl
-
-  pub name-of-none : (p .kind ≡ 3 → ⊥) → (p .kind ≡ 4 → ⊥) → r ≡ noName → r ≡ nameOf p
-  unfolding nameOf
-  name-of-none n m q = q ∙ rw (ne-eqb (p .kind) 3 n, ne-eqb (p .kind) 4 m) refl

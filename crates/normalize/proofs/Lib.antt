@@ -1,11 +1,6 @@
-pub mod Tested
-pub mod TableLaws
-pub mod KeyLaws
-pub mod PlaceLaws
 pub mod ClassLaws
 pub mod SplitLaws
 pub mod TrimLaws
-pub mod BandTheorems
 pub mod ModeTheorems
 pub mod Meaning
 pub mod Determined

@@ -2,70 +2,34 @@
 -- Assumes nothing.
 use mathlib.Core.Path.{_≡_, refl, sym, ap, _∙_}
 use mathlib.Core.Bool.{Bool, true, false}
-use mathlib.Core.List.{List, [], _∷_, map}
+use mathlib.Core.List.{List, [], _∷_}
 use mathlib.Core.Option.{Option, none, some}
 use Prim.Native.Nat.{ℕ, zero, suc, _+_, _-_, _≤_, _<_}
 use native.Mathlib.Nat.{not-suc-le-zero, le-of-suc-le-suc, zero-add, add-zero, add-suc, suc-add}
 use native.Mathlib.Omega.{arith}
-use lib.Dec.{eqb, leb, ltb}
-use lib.ListN.{length, getD, take, drop, length-take, length-map, List·getD-map}
+use lib.Dec.{eqb, ltb}
+use lib.ListN.{length, getD, take, drop, length-take, List·getD-map}
 use lib.Seq.{take-take, take-nil, drop-nil, drop-drop}
-use borrow.Author.Tests.{eqb-true, ltb-true, lt-leb, ne-eqb, eq-eqb}
-use Rattle.text.specs.Pick.{pick, both, either}
+use borrow.Author.Tests.{eqb-true, ltb-true, lt-leb}
+use Rattle.text.specs.Pick.{pick, both}
 use Rattle.text.specs.Space.{trimStart, trimEnd, trimmed}
 use Rattle.text.specs.Walk.{lead}
 use Rattle.letters.specs.Capitals.{raised, capitals}
 use Rattle.letters.specs.Same.{same, sameRaised}
 use Rattle.letters.proofs.CapitalLaws.{capitals-twice}
 use Rattle.letters.proofs.SameLaws.{same-true}
-use Rattle.normalize.specs.Table.{firstFrom, named, entry}
-use Rattle.normalize.specs.Modes.{Known, modes, modeNames, submodes, aliases}
-use Rattle.normalize.specs.Place.{place, absent, inCapitals, modeEntry, inText, part, value, orEmpty, bytes}
-use Rattle.normalize.specs.Normal.{
-  tidied,
-  lookup,
-  parentOf,
-  otherwise,
-  aliased,
-  unlessEmpty,
-  given,
-  Normal,
-  split,
-  joined,
-  normal,
-  tidy,
-  isAbsent,
-  isEmpty,
-  orElse,
-  number,
-  modeNumbers,
-  entryAt,
-  names,
-  parentEntry,
-  aliasEntry,
-  aliasedPlace,
-  splitPlace,
-  normalPlaces,
-  modal,
-}
-use Rattle.normalize.specs.declared.Found.{Found}
-use Rattle.normalize.specs.declared.Found.the-variants.{At, Nothing}
-use Rattle.normalize.specs.declared.Place.{Place}
+use Rattle.tables.specs.Table.{firstFrom, named, entry}
+use Rattle.tables.specs.Modes.{modes, modeNames}
+use Rattle.normalize.specs.Modes.{Known, submodes, aliases}
+use Rattle.tables.specs.Place.{place, absent, modeEntry, part, value, orEmpty, bytes, tidy, isEmpty, orElse}
+use Rattle.normalize.specs.Normal.{tidied, lookup, parentOf, otherwise, aliased, unlessEmpty, given, Normal, split, joined, normal, number, modeNumbers, entryAt, names, parentEntry, aliasEntry, aliasedPlace, splitPlace, normalPlaces, modal}
+use Rattle.tables.specs.declared.Found.{Found}
+use Rattle.tables.specs.declared.Found.the-variants.{At, Nothing}
+use Rattle.tables.specs.declared.Place.{Place}
 use Rattle.normalize.specs.declared.ModePair.{ModePair}
-use Rattle.normalize.proofs.Tested.{both-left, both-right, all, all-at}
+use Rattle.tables.proofs.Tested.{both-left, both-right, all, all-at}
 use Rattle.normalize.proofs.TrimLaws.{trim-capitals}
-use Rattle.normalize.proofs.ModeTheorems.{
-  not,
-  isNone,
-  settled,
-  settled-tidy,
-  settled-parent,
-  settled-lookup,
-  settled-some,
-  mode-settled,
-  tidied-twice,
-  normal-twice,
-}
+use Rattle.normalize.proofs.ModeTheorems.{not, isNone, settled, settled-tidy, settled-parent, settled-lookup, settled-some, mode-settled, normal-twice}
 
 -- ---- a part of a part of the text is a part of the text
 drop-take : (a l : ℕ) (ys : List ℕ) → drop a (take l ys) ≡ take (l - a) (drop a ys)

@@ -4,33 +4,21 @@ use mathlib.Core.Path.{_≡_, refl, sym, ap, _∙_}
 use mathlib.Core.Bool.{Bool, true, false}
 use mathlib.Core.List.{List, [], _∷_, _++_, map}
 use mathlib.Core.Option.{Option, none, some}
-use Prim.Native.Nat.{ℕ, zero, suc, _<_}
+use Prim.Native.Nat.{ℕ, _<_}
 use native.Mathlib.Omega.{arith}
 use lib.ListN.{length, getD}
 use Rattle.text.specs.Pick.{pick, both}
 use Rattle.text.specs.Space.{space1, space2, space3, space80, spaceLen, spaceBack, width, trimStart, trimEnd, trimmed}
 use Rattle.text.specs.Walk.{lead}
-use Rattle.letters.specs.Capitals.{raised, capitals}
+use Rattle.letters.specs.Capitals.{raised}
 use Rattle.letters.specs.Same.{same, sameRaised}
 use Rattle.letters.proofs.CapitalLaws.{capitals-twice}
 use Rattle.letters.proofs.SameLaws.{same-true}
-use Rattle.normalize.specs.Bands.{bands, bandNames}
-use Rattle.normalize.specs.Modes.{Known, modes, modeNames, submodes, aliases}
-use Rattle.normalize.specs.Normal.{
-  tidied,
-  lookup,
-  parentOf,
-  otherwise,
-  aliased,
-  unlessEmpty,
-  given,
-  Normal,
-  split,
-  joined,
-  normal,
-  names,
-}
-use Rattle.normalize.proofs.Tested.{both-left, both-right, all, pairs, all-at, pair-at}
+use Rattle.tables.specs.Bands.{bands, bandNames}
+use Rattle.tables.specs.Modes.{modes, modeNames}
+use Rattle.normalize.specs.Modes.{Known, submodes, aliases}
+use Rattle.normalize.specs.Normal.{tidied, lookup, parentOf, otherwise, aliased, unlessEmpty, given, Normal, split, joined, normal, names}
+use Rattle.tables.proofs.Tested.{both-left, both-right, all, pairs, all-at, pair-at}
 use Rattle.normalize.proofs.TrimLaws.{trim-twice, trim-capitals}
 
 abbrev pub not : Bool → Bool

@@ -2,16 +2,16 @@
 use mathlib.Core.Path.{_≡_, refl, sym, ap, _∙_}
 use mathlib.Core.Bool.{Bool, true, false}
 use mathlib.Core.Logic.{_⊎_, inl, inr, ⊎-elim}
-use mathlib.Core.List.{List, [], _∷_, _++_, map, reverse, reverseAux, reverse-append, reverse-reverse}
+use mathlib.Core.List.{List, [], _∷_, _++_, reverse, reverseAux, reverse-append, reverse-reverse}
 use Prim.Native.Nat.{ℕ, zero, suc, _+_, _-_, _≤_, _<_}
 use native.Mathlib.Nat.{not-suc-le-zero, le-of-suc-le-suc, suc-add}
 use native.Mathlib.Numerals.{sub-one}
 use native.Mathlib.Omega.{arith}
-use lib.Dec.{leb, ltb, eqb}
+use lib.Dec.{leb, eqb}
 use lib.ListN.{length, getD, take, drop, take-append-drop, length-drop, length-reverse, length-map, List·getD-map}
-use lib.Seq.{take-length, take-nil, drop-at, drop-drop, length-take-le}
-use borrow.Author.Tests.{eqb-true, ne-eqb, lt-leb, ltb-true, leb-true}
-use Rattle.text.specs.Pick.{pick, both, either, within}
+use lib.Seq.{take-length, drop-at, drop-drop}
+use borrow.Author.Tests.{ne-eqb, lt-leb, leb-true}
+use Rattle.text.specs.Pick.{pick, both, within}
 use Rattle.text.specs.Space.{space1, space2, space3, space80, spaceLen, spaceBack, width, trimStart, trimEnd, trimmed}
 use Rattle.text.specs.Walk.{onward, walk, lead}
 use Rattle.text.proofs.Walks.{stops, lead-le}

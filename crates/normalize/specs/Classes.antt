@@ -6,15 +6,15 @@ use lib.ListN.{length, getD}
 use Rattle.text.specs.Ascii.{ascii}
 use Rattle.text.specs.Pick.{pick}
 use Rattle.text.specs.Space.{trimmed}
-use Rattle.normalize.specs.Table.{firstFrom, named}
-use Rattle.normalize.specs.Modes.{Mode, modes, modeNames}
-use Rattle.normalize.specs.declared.Found.{Found}
-use Rattle.normalize.specs.declared.Found.the-variants.{At, Nothing}
-use Rattle.normalize.specs.declared.ModeClass.{ModeClass}
-use Rattle.normalize.specs.declared.ModeClass.the-variants.{Phone, Cw, Digital, Image}
+use Rattle.tables.specs.Table.{firstFrom, named}
+use Rattle.tables.specs.Modes.{Mode, modes, modeNames}
+use Rattle.tables.specs.declared.Found.{Found}
+use Rattle.tables.specs.declared.Found.the-variants.{At, Nothing}
+use Rattle.tables.specs.declared.ModeClass.{ModeClass}
+use Rattle.tables.specs.declared.ModeClass.the-variants.{Phone, Cw, Digital, Image}
 use Rattle.normalize.specs.declared.Classed.{Classed}
 use Rattle.normalize.specs.declared.Classed.the-variants.{In, Unclassed}
-use Rattle.normalize.specs.declared.Span.{Span}
+use Rattle.tables.specs.declared.Span.{Span}
 
 -- every class, in the order of their numbers from 0
 unfoldable pub classes : List ModeClass

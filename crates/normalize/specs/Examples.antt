@@ -1,39 +1,19 @@
 -- Worked examples.
 use mathlib.Core.Path.{_≡_, refl}
-use mathlib.Core.List.{[]}
 use mathlib.Core.Option.{none, some}
 use Rattle.text.specs.Ascii.{ascii}
 use Rattle.text.specs.Space.{space1, space2, space3, space80, spaceLen, spaceBack, width, trimStart, trimEnd, trimmed}
 use Rattle.text.specs.Walk.{lead}
 use Rattle.letters.specs.Capitals.{raised}
 use Rattle.letters.specs.Same.{sameRaised}
-use Rattle.normalize.specs.Table.{named}
-use Rattle.normalize.specs.Bands.{bands, bandNames, bandFor, bandNamed}
-use Rattle.normalize.specs.Modes.{modes, modeNames, submodes, aliases}
+use Rattle.tables.specs.Table.{named}
+use Rattle.tables.specs.Modes.{modes, modeNames}
+use Rattle.normalize.specs.Modes.{submodes, aliases}
 use Rattle.normalize.specs.Classes.{classes, classNamed, classOf, modesIn, spanOf}
-use Rattle.normalize.specs.Place.{absent, stands, inCapitals, bandEntry, modeEntry, part, value}
-use Rattle.normalize.specs.Normal.{tidied, parentOf, aliased, normal, tidy, parentEntry, aliasEntry, aliasedPlace, splitPlace, normalPlaces}
-use Rattle.normalize.specs.declared.Found.the-variants.{At, Nothing}
-use Rattle.normalize.specs.declared.ModeClass.the-variants.{Phone, Cw, Digital, Image}
+use Rattle.tables.specs.Place.{absent, stands, inCapitals, modeEntry, part, tidy}
+use Rattle.normalize.specs.Normal.{tidied, parentOf, aliased, normal, parentEntry, aliasEntry, aliasedPlace, splitPlace, normalPlaces}
+use Rattle.tables.specs.declared.ModeClass.the-variants.{Phone, Digital, Image}
 use Rattle.normalize.specs.declared.Classed.the-variants.{In, Unclassed}
-
--- 7300000 Hz is 40m, and 7300001 Hz is in no band
-forty : bandFor 7_300_000 ≡ At 5
-unfolding bandFor bands
-forty = refl
-
-above-forty : bandFor 7_300_001 ≡ Nothing
-unfolding bandFor bands
-above-forty = refl
-
-forty-name : value [] (bandEntry 5) ≡ some (ascii "40m")
-unfolding value bandNames bands
-forty-name = refl
-
--- " 40M" names it
-forty-named : bandNamed (ascii " 40M") ≡ At 5
-unfolding bandNamed named bandNames bands trimmed trimStart trimEnd lead spaceLen spaceBack width space1 space2 space3 space80 sameRaised raised
-forty-named = refl
 
 -- "usb" is SSB
 sideband : normal (ascii "usb") none ≡ record { mode = ascii "SSB"; submode = none }

@@ -1,7 +1,4 @@
-pub mod Table
-pub mod Bands
-pub mod Modes
 pub mod Classes
-pub mod Place
+pub mod Modes
 pub mod Normal
 pub mod Examples

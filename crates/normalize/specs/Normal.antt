@@ -1,20 +1,21 @@
 -- Normalising a mode with its submode: what comes out, as bytes and then as places.
-use Prim.Native.Nat.{ℕ, _+_}
+use Prim.Native.Nat.{ℕ}
 use mathlib.Core.Bool.{Bool}
 use mathlib.Core.List.{List, [], _∷_, map}
 use mathlib.Core.Option.{Option, none, some}
 use lib.Dec.{eqb, leb, ltb}
 use lib.ListN.{length, getD}
 use Rattle.text.specs.Pick.{pick, both, either}
-use Rattle.text.specs.Space.{trimStart, trimmed}
+use Rattle.text.specs.Space.{trimmed}
 use Rattle.letters.specs.Capitals.{capitals}
 use Rattle.letters.specs.Same.{same}
-use Rattle.normalize.specs.Table.{firstFrom, named}
-use Rattle.normalize.specs.Modes.{Known, modeNames, submodes, aliases}
-use Rattle.normalize.specs.Place.{absent, inCapitals, modeEntry, inText, part}
-use Rattle.normalize.specs.declared.Found.{Found}
-use Rattle.normalize.specs.declared.Found.the-variants.{At, Nothing}
-use Rattle.normalize.specs.declared.Place.{Place}
+use Rattle.tables.specs.Table.{firstFrom, named, keyOf}
+use Rattle.tables.specs.Modes.{modeNames}
+use Rattle.normalize.specs.Modes.{Known, submodes, aliases}
+use Rattle.tables.specs.Place.{absent, modeEntry, part, tidy, isAbsent, isEmpty, orElse}
+use Rattle.tables.specs.declared.Found.{Found}
+use Rattle.tables.specs.declared.Found.the-variants.{At, Nothing}
+use Rattle.tables.specs.declared.Place.{Place}
 use Rattle.normalize.specs.declared.ModePair.{ModePair}
 
 -- ---- as bytes
@@ -66,20 +67,6 @@ normal m s = joined (tidied m) (given s)
 
 -- ---- as places
 
--- trimmed, and in capitals; an entry of a table is both already
-unfoldable pub tidy : List ℕ → Place → Place
-tidy text p = pick (inText p) (inCapitals (p .start + trimStart (part text p)) (length (trimmed (part text p)))) p
-
-abbrev pub isAbsent : Place → Bool
-isAbsent p = eqb (p .kind) 0
-
--- absent, or a part of no bytes
-abbrev pub isEmpty : Place → Bool
-isEmpty p = either (isAbsent p) (both (inText p) (eqb (p .len) 0))
-
-abbrev pub orElse : Place → Place → Place
-orElse p q = pick (isAbsent p) q p
-
 -- the number of a mode in the table of modes
 abbrev pub number : Found → ℕ
 number (At k) = k
@@ -94,6 +81,16 @@ entryAt ns Nothing = absent
 
 abbrev pub names : List Known → List (List ℕ)
 names rows = map (λ (r : Known). r .name) rows
+
+-- the entry of the mode that goes with a key, or absent
+abbrev pub entryOfKey : List Known → ℕ → Place
+entryOfKey rows k = entryAt (modeNumbers rows) (firstFrom (eqb k) 0 (map keyOf (names rows)))
+
+unfoldable pub parentOfKey : ℕ → Place
+parentOfKey k = entryOfKey submodes k
+
+unfoldable pub aliasOfKey : ℕ → Place
+aliasOfKey k = entryOfKey aliases k
 
 -- the entry of the mode that goes with a text, or absent
 unfoldable pub parentEntry : List ℕ → Place

@@ -1,16 +1,16 @@
 // The classes of modes.
 ghost use mathlib.Core.Path.{_≡_};
 ghost use Rattle.normalize.specs.Classes.{classNumbered, classNumber, className, classNamed, classOf, spanOf};
-ghost use Rattle.normalize.specs.Place.{spelled};
+ghost use Rattle.tables.specs.Place.{spelled};
 use super::Classed;
-use super::Found;
-use super::ModeClass;
-use super::Name;
-use super::Span;
-use super::modes;
-use super::name_in;
-use super::named_in;
-use super::number_at;
+use tables::Found;
+use tables::ModeClass;
+use tables::Name;
+use tables::Span;
+use tables::modes;
+use tables::name_in;
+use tables::named_in;
+use tables::number_at;
 
 const NAMES: [[u8; 12]; 4] = [
     *b"phone\0\0\0\0\0\0\0",

@@ -2,81 +2,14 @@
 ghost use mathlib.Core.Path.{_≡_};
 ghost use Prim.Native.Nat.{_≤_};
 ghost use lib.ListN.{length, getD};
-ghost use Rattle.normalize.specs.Normal.{entryAt, parentEntry, aliasEntry, aliasedPlace, splitPlace, normalPlaces};
-use super::Found;
+ghost use Rattle.normalize.specs.Normal.{entryAt, parentOfKey, aliasOfKey, parentEntry, aliasedPlace, splitPlace, normalPlaces};
 use super::ModePair;
-use super::Place;
-use super::keyed_in;
-use super::number_at;
-use super::places;
-
-pub const NAMES: [[u8; 12]; 31] = [
-    *b"SSB\0\0\0\0\0\0\0\0\0",
-    *b"AM\0\0\0\0\0\0\0\0\0\0",
-    *b"FM\0\0\0\0\0\0\0\0\0\0",
-    *b"DIGITALVOICE",
-    *b"CW\0\0\0\0\0\0\0\0\0\0",
-    *b"FT8\0\0\0\0\0\0\0\0\0",
-    *b"MFSK\0\0\0\0\0\0\0\0",
-    *b"JT65\0\0\0\0\0\0\0\0",
-    *b"JT9\0\0\0\0\0\0\0\0\0",
-    *b"JT4\0\0\0\0\0\0\0\0\0",
-    *b"Q65\0\0\0\0\0\0\0\0\0",
-    *b"FSK441\0\0\0\0\0\0",
-    *b"ISCAT\0\0\0\0\0\0\0",
-    *b"MSK144\0\0\0\0\0\0",
-    *b"PSK\0\0\0\0\0\0\0\0\0",
-    *b"RTTY\0\0\0\0\0\0\0\0",
-    *b"OLIVIA\0\0\0\0\0\0",
-    *b"CONTESTIA\0\0\0",
-    *b"DOMINO\0\0\0\0\0\0",
-    *b"THOR\0\0\0\0\0\0\0\0",
-    *b"THRB\0\0\0\0\0\0\0\0",
-    *b"MT63\0\0\0\0\0\0\0\0",
-    *b"HELL\0\0\0\0\0\0\0\0",
-    *b"ARDOP\0\0\0\0\0\0\0",
-    *b"PACKET\0\0\0\0\0\0",
-    *b"PACTOR\0\0\0\0\0\0",
-    *b"VARA\0\0\0\0\0\0\0\0",
-    *b"WINMOR\0\0\0\0\0\0",
-    *b"SSTV\0\0\0\0\0\0\0\0",
-    *b"ATV\0\0\0\0\0\0\0\0\0",
-    *b"FAX\0\0\0\0\0\0\0\0\0",
-];
-
-pub const LENS: [usize; 31] = [
-    3,
-    2,
-    2,
-    12,
-    2,
-    3,
-    4,
-    4,
-    3,
-    3,
-    3,
-    6,
-    5,
-    6,
-    3,
-    4,
-    6,
-    9,
-    6,
-    4,
-    4,
-    4,
-    4,
-    5,
-    6,
-    6,
-    4,
-    6,
-    4,
-    3,
-    3,
-];
+use tables::Found;
+use tables::Place;
+use tables::first_key;
+use tables::number_at;
+use tables::places;
+use tables::text_key;
 
 // The submodes as keys: 1, then the bytes of the name.
 const SUBMODES: [u64; 10] = [
@@ -119,32 +52,39 @@ fn mode_at(numbers: &[u32], f: Found) -> Place
     }
 }
 
+fn parent_of_key(k: u64) -> Place
+    ensures { λ r. ⌜ r ≡ parentOfKey k ⌝ }
+{
+    mode_at(&PARENTS, first_key(&SUBMODES, k))
+}
+
+fn alias_of_key(k: u64) -> Place
+    ensures { λ r. ⌜ r ≡ aliasOfKey k ⌝ }
+{
+    mode_at(&ALIASED, first_key(&ALIASES, k))
+}
+
 fn parent_of_submode(sm: &[u8]) -> Place
     ensures { λ r. ⌜ r ≡ parentEntry (now (sm .entry)) ⌝ }
 {
-    mode_at(&PARENTS, keyed_in(&SUBMODES, sm))
-}
-
-fn alias_of_mode(mode: &[u8]) -> Place
-    ensures { λ r. ⌜ r ≡ aliasEntry (now (mode .entry)) ⌝ }
-{
-    mode_at(&ALIASED, keyed_in(&ALIASES, mode))
+    parent_of_key(text_key(sm))
 }
 
 fn alias_mode(text: &[u8], m: Place) -> Place
     ensures { λ r. ⌜ r ≡ aliasedPlace (now (text .entry)) m ⌝ }
 {
-    places::or_else(alias_of_mode(places::part(text, m)), m)
+    places::or_else(alias_of_key(text_key(places::part(text, m))), m)
 }
 
 // No submode: the mode may be a submode itself, which is common.
 fn split_mode(text: &[u8], m: Place) -> ModePair
     ensures { λ r. ⌜ r ≡ splitPlace (now (text .entry)) m ⌝ }
 {
-    let parent = parent_of_submode(places::part(text, m));
+    let k = text_key(places::part(text, m));
+    let parent = parent_of_key(k);
     if places::is_absent(parent) {
         return ModePair {
-            mode: alias_mode(text, m),
+            mode: places::or_else(alias_of_key(k), m),
             submode: places::absent(),
         };
     }

@@ -14,16 +14,17 @@ use Rattle.refusals.specs.declared.Refusal.{Refusal}
 use Rattle.refusals.specs.declared.Refusal.the-variants.{TooLong, NotUtf8}
 use Rattle.refusals.specs.declared.Verdict.{Verdict}
 use Rattle.refusals.specs.declared.Verdict.the-variants.{Accepted, Refused}
-use Rattle.normalize.specs.Table.{isFound}
-use Rattle.normalize.specs.Bands.{bandNamed}
-use Rattle.normalize.specs.Place.{absent, stands, bandPlace, spelled, noName, nameOf}
-use Rattle.normalize.specs.Normal.{tidy, isEmpty, normalPlaces}
+use Rattle.tables.specs.Table.{isFound}
+use Rattle.tables.specs.Bands.{bandNamed}
+use Rattle.tables.specs.Place.{absent, stands, bandPlace, spelled, noName, nameOf}
+use Rattle.tables.specs.Place.{tidy, isEmpty}
+use Rattle.normalize.specs.Normal.{normalPlaces}
 use Rattle.normalize.specs.Classes.{classNumber, classNumbered, className, classNamed, classOf, spanOf}
-use Rattle.normalize.specs.declared.Place.{Place}
-use Rattle.normalize.specs.declared.Name.{Name}
-use Rattle.normalize.specs.declared.Span.{Span}
+use Rattle.tables.specs.declared.Place.{Place}
+use Rattle.tables.specs.declared.Name.{Name}
+use Rattle.tables.specs.declared.Span.{Span}
 use Rattle.normalize.specs.declared.ModePair.{ModePair}
-use Rattle.normalize.specs.declared.ModeClass.{ModeClass}
+use Rattle.tables.specs.declared.ModeClass.{ModeClass}
 use Rattle.normalize.specs.declared.Classed.{Classed}
 use Rattle.normalize.specs.declared.Classed.the-variants.{In, Unclassed}
 use Rattle.oxbreathe.specs.Normalizing.{

@@ -7,14 +7,15 @@ use lib.Dec.{ltb}
 use Rattle.text.specs.Pick.{pick}
 use Rattle.refusals.specs.Refusals.{numberOf, placeOf, ofText, ofTexts}
 use Rattle.refusals.specs.declared.Refusal.{Refusal}
-use Rattle.normalize.specs.Table.{isFound}
-use Rattle.normalize.specs.Bands.{bandNamed}
-use Rattle.normalize.specs.Place.{absent, stands, bandPlace, spelled, noName}
-use Rattle.normalize.specs.Normal.{tidy, isEmpty, normalPlaces}
+use Rattle.tables.specs.Table.{isFound}
+use Rattle.tables.specs.Bands.{bandNamed}
+use Rattle.tables.specs.Place.{absent, stands, bandPlace, spelled, noName}
+use Rattle.tables.specs.Place.{tidy, isEmpty}
+use Rattle.normalize.specs.Normal.{normalPlaces}
 use Rattle.normalize.specs.Classes.{classNumber, classNumbered, className, classNamed, classOf, spanOf}
-use Rattle.normalize.specs.declared.Place.{Place}
-use Rattle.normalize.specs.declared.Name.{Name}
-use Rattle.normalize.specs.declared.Span.{Span}
+use Rattle.tables.specs.declared.Place.{Place}
+use Rattle.tables.specs.declared.Name.{Name}
+use Rattle.tables.specs.declared.Span.{Span}
 use Rattle.normalize.specs.declared.Classed.{Classed}
 use Rattle.normalize.specs.declared.Classed.the-variants.{In, Unclassed}
 use Rattle.oxbreathe.specs.Texts.{answer, untoldOf, toldOf}

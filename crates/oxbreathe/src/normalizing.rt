@@ -3,22 +3,22 @@
 ghost use mathlib.Core.Path.{_≡_};
 ghost use Prim.Native.Nat.{_≤_};
 ghost use lib.ListN.{length};
-ghost use Rattle.normalize.specs.Bands.{bandFor, everyBand};
-ghost use Rattle.normalize.specs.Place.{place, stands, bandPlace, nameOf};
+ghost use Rattle.tables.specs.Bands.{bandFor, everyBand};
+ghost use Rattle.tables.specs.Place.{place, stands, bandPlace, nameOf};
 ghost use Rattle.oxbreathe.specs.Normalizing.{bandOf, bandKnownOf, givenPlace, normalizedOf, unnormalizedOf, normalizeOf, unclassifiedOf, classifiedOf, modeClassOf, classNamedOf, modesOf, classNameOf};
 use super::texts::Told;
 use normalize::Classed;
-use normalize::Name;
-use normalize::Place;
-use normalize::Span;
-use normalize::bands;
 use normalize::classes;
 use normalize::modes;
-use normalize::places;
 use refusals::Refusal;
 use refusals::Verdict;
 use refusals::check_text;
 use refusals::check_texts;
+use tables::Name;
+use tables::Place;
+use tables::Span;
+use tables::bands;
+use tables::places;
 
 #[repr(C)]
 pub struct Placed {

@@ -1,12 +1,15 @@
 -- A block of ASCII is whole characters; and what the loops over blocks ask. Assumes nothing.
 use mathlib.Core.Path.{_≡_, refl, sym, ap, _∙_, subst}
+use mathlib.Core.Bool.{Bool, true, false}
 use mathlib.Core.List.{List}
 use Prim.Native.Nat.{ℕ, zero, suc, _+_, _-_, _≤_, _<_}
 use native.Mathlib.Nat.{add-zero, zero-add, suc-ne-zero, le-trans, eq-or-lt-of-le, le-of-suc-le-suc}
 use native.Mathlib.Numerals.{add-one}
 use native.Mathlib.Omega.{arith}
 use lib.ListN.{length, getD, take, drop, length-take, length-drop}
+use lib.Dec.{ltb}
 use lib.Seq.{getD-take, getD-drop}
+use borrow.Author.Tests.{ltb-true, ltb-false}
 use mathlib.Core.Logic.{⊎-elim}
 use Rattle.text.specs.Walk.{ends}
 use Rattle.text.specs.Utf8.{charLen, validUpTo, utf8}
@@ -61,6 +64,14 @@ up-to-all s i t h f k lt = f k (omega arith)
 pub walk-starts : (s : List ℕ) → ends charLen s 0 ≡ validUpTo s
 unfolding validUpTo ends
 walk-starts s = simp zero-add
+
+-- where the whole text was passed character by character
+pub passed-whole : (s : List ℕ) (r : ℕ) → Passed s 0 (length s) r → r ≡ validUpTo s
+passed-whole s r p = by (ltb r (length s)) refl
+  where
+    by : (t : Bool) → ltb r (length s) ≡ t → r ≡ validUpTo s
+    by true e = passed-bad s 0 (length s) r (validUpTo s) p (walk-starts s) (ltb-true r (length s) e)
+    by false e = out charLen s r (validUpTo s) (ltb-false r (length s) e) (passed-on s 0 (length s) r (validUpTo s) p (walk-starts s))
 
 pub utf8-is : (s : List ℕ) (r : ℕ) → r ≡ validUpTo s → lib.Dec.eqb r (length s) ≡ utf8 s
 unfolding utf8

@@ -13,6 +13,9 @@ use super::inside;
 // How many bytes are looked at together.
 const BLOCK: usize = 256;
 
+// Texts of fewer bytes are looked at byte by byte.
+const SHORT: usize = 8;
+
 fn take_if(t: bool, n: usize) -> usize
     ensures { λ r. ⌜ r ≡ pick t n 0 ⌝ }
 {
@@ -122,9 +125,8 @@ fn block_end(i: usize, len: usize) -> usize
     if len - i <= BLOCK { len } else { i + BLOCK }
 }
 
-// The place of the first byte that belongs to no whole character, or the length. A block of ASCII is whole characters and is passed
-// at once.
-pub fn valid_up_to(s: &[u8]) -> usize
+// A block of ASCII is whole characters and is passed at once.
+fn blocks_up_to(s: &[u8]) -> usize
     ensures { λ r. ⌜ r ≡ validUpTo (now (s .entry)) ⌝ }
 {
     let mut i = 0;
@@ -141,6 +143,16 @@ pub fn valid_up_to(s: &[u8]) -> usize
         }
     }
     i
+}
+
+// The place of the first byte that belongs to no whole character, or the length. For the few bytes of a name no block pays.
+pub fn valid_up_to(s: &[u8]) -> usize
+    ensures { λ r. ⌜ r ≡ validUpTo (now (s .entry)) ⌝ }
+{
+    if s.len() < SHORT {
+        return chars_up_to(s, 0, s.len());
+    }
+    blocks_up_to(s)
 }
 
 pub fn is_utf8(s: &[u8]) -> bool

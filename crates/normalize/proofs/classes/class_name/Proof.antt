@@ -1,7 +1,7 @@
 use Rattle.normalize.specs.Classes.{classes}
 use Rattle.normalize.proofs.ClassLaws.{class-spelled}
 use mathlib.Core.Path.{refl}
-use Rattle.normalize.proofs.PlaceLaws.{columns}
+use Rattle.tables.proofs.PlaceLaws.{columns}
 use borrow.Author.Needs.{needs}
 use Rattle.normalize.proofs.classes.class_name.Statement.{statement}
 use Rattle.normalize.proofs.classes.class_name.Tie as tie

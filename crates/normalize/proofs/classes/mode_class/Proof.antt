@@ -1,8 +1,8 @@
-use Rattle.normalize.specs.Table.{cut}
-use Rattle.normalize.specs.Modes.{modes, modeNames}
+use Rattle.tables.specs.Table.{cut}
+use Rattle.tables.specs.Modes.{modes, modeNames}
 use Rattle.normalize.proofs.ClassLaws.{class-found, class-unfound}
 use mathlib.Core.Path.{refl}
-use Rattle.normalize.proofs.PlaceLaws.{columns}
+use Rattle.tables.proofs.PlaceLaws.{columns}
 use borrow.Author.Needs.{needs}
 use Rattle.normalize.proofs.classes.mode_class.Statement.{statement}
 use Rattle.normalize.proofs.classes.mode_class.Tie as tie

@@ -1,36 +1,17 @@
-use mathlib.Core.Path.{refl, ap, _∙_}
-use Rattle.letters.specs.Capitals.{raised}
-use Rattle.normalize.specs.Table.{keyOf}
-use Rattle.normalize.specs.Modes.{modes, modeNames, submodes}
-use Rattle.normalize.specs.Normal.{entryAt, modeNumbers, names, parentEntry}
-use Rattle.normalize.specs.declared.Found.{Found}
-use Rattle.normalize.proofs.KeyLaws.{keys-named}
+use Rattle.normalize.proofs.SplitLaws.{parent-of-key}
 use borrow.Author.Needs.{needs}
 use Rattle.normalize.proofs.modes.parent_of_submode.Statement.{statement}
 use Rattle.normalize.proofs.modes.parent_of_submode.Tie as tie
 
-slice-aggregate-mode-at : tie.Need-slice-aggregate-mode-at
-slice-aggregate-mode-at c = search needs
+text-key-requires : tie.Need-text-key-requires
+text-key-requires c κs = search needs
 
-slice-aggregate-keyed-in : tie.Need-slice-aggregate-keyed-in
-slice-aggregate-keyed-in c = search needs
-
-keyed-in-requires : tie.Need-keyed-in-requires
-keyed-in-requires c κs = search needs
-
-mode-at-requires : tie.Need-mode-at-requires
-mode-at-requires c κs = search needs
+parent-of-key-requires : tie.Need-parent-of-key-requires
+parent-of-key-requires c κs = search needs
 
 returns : tie.Need-returns
-unfolding parentEntry submodes modeNames modes keyOf raised
-returns c = c .mode-at .ensures ∙ ap (λ (f : Found). entryAt (modeNumbers submodes) f) (keys-named _ (names submodes) _ refl (c .before .keyed-in .ensures))
+returns c = search parent-of-key
 
 pub parent-of-submode-spec : {M : Type 1} → statement M
 parent-of-submode-spec =
-    tie.close
-    (tie.spec
-    slice-aggregate-mode-at
-    slice-aggregate-keyed-in
-    keyed-in-requires
-    mode-at-requires
-    returns)
+    tie.close (tie.spec text-key-requires parent-of-key-requires returns)

@@ -1,0 +1,7 @@
+pub mod Tested
+pub mod TableLaws
+pub mod EntryLaws
+pub mod KeyLaws
+pub mod PlaceLaws
+pub mod BandTheorems
+pub mod Determined
