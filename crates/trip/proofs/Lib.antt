@@ -5,3 +5,5 @@ pub mod Means
 pub mod Back
 pub mod Grouped
 pub mod Accepted
+pub mod Trip
+pub mod Promised
