@@ -79,6 +79,17 @@ order-turn (x ∷ xs) (y ∷ ys) e = by (first x y xs ys) (λ q. order-turn xs y
     by (above h) k = first-below y x ys xs h
     by (level h) k = first-same y x ys xs (sym h) ∙ k (sym (first-same x y xs ys h) ∙ e)
 
+pub order-flip : (xs ys : List ℕ) → order xs ys ≡ Less → order ys xs ≡ Greater
+order-flip [] [] e = absurd (less-equal (sym e))
+order-flip [] (y ∷ ys) e = refl
+order-flip (x ∷ xs) [] e = absurd (less-greater (sym e))
+order-flip (x ∷ xs) (y ∷ ys) e = by (first x y xs ys) (λ q. order-flip xs ys q)
+  where
+    by : First x y xs ys → (order xs ys ≡ Less → order ys xs ≡ Greater) → order (y ∷ ys) (x ∷ xs) ≡ Greater
+    by (below h) k = first-above y x ys xs h
+    by (above h) k = absurd (less-greater (sym e ∙ first-above x y xs ys h))
+    by (level h) k = first-same y x ys xs (sym h) ∙ k (sym (first-same x y xs ys h) ∙ e)
+
 pub order-trans : (xs ys zs : List ℕ) → order xs ys ≡ Less → order ys zs ≡ Less → order xs zs ≡ Less
 order-trans [] [] zs p q = absurd (less-equal (sym p))
 order-trans [] (y ∷ ys) [] p q = absurd (less-greater (sym q))

@@ -1,0 +1,9 @@
+pub mod Lengths
+pub mod Raised
+pub mod Says
+pub mod Means
+pub mod Back
+pub mod Grouped
+pub mod Accepted
+pub mod Trip
+pub mod Promised
