@@ -84,7 +84,7 @@ fn questions(random: &mut Random) -> Vec<Question> {
     for text in [&b"\xFF"[..], b"<A:1>\xC3", b"<A\xE2\x82>", b"<A:1>x<EOR>\x80"] {
         add(text, 12);
     }
-    for _ in 0..400 {
+    for _ in 0..300 {
         let mut text = document(random);
         if random.below(3) == 0 {
             damage(random, &mut text);

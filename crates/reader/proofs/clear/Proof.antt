@@ -31,13 +31,13 @@ loop-less : tie.Need-loop-less Inv-loop μ-loop
 loop-less c = search needs
 
 loop-again : tie.Need-loop-again Inv-loop μ-loop
-loop-again c = search (needs, cleared-more)
+loop-again c = (omega arith, omega arith, simp length-set (c .before .loop .inv .2), cleared-more _ _ _ _ (c .before .loop .inv .0) (c .before .loop .inv .3))
 
 same-length : tie.Need-same-length Inv-loop μ-loop
 same-length c = search needs
 
 returns : tie.Need-returns Inv-loop μ-loop
-returns c = search cleared
+returns c = cleared _ _ _ _ (c .before .before .pre) (c .before .loop .inv .1) (c .before .loop .inv .2) (c .loop-test .left) (c .before .loop .inv .3)
 
 pub clear-spec : {M : Type 1} → statement M
 clear-spec =

@@ -1,3 +1,4 @@
+use native.Mathlib.Omega.{arith}
 use Rattle.reader.proofs.TurnLaws.{name-fits, name-length-fits, value-fits, value-length-fits, end-fits, turn-end, turn-eof, turn-eoh, turn-eor, turn-field, turn-refused}
 use borrow.Author.Needs.{needs}
 use Rattle.reader.proofs.next_turn.Statement.{statement}
@@ -37,22 +38,22 @@ enum-known-tag-3 : tie.Need-enum-known-tag-3
 enum-known-tag-3 c = search needs
 
 cast-t35 : tie.Need-cast-t35
-cast-t35 c = search name-fits
+cast-t35 c = name-fits _ _ _ (c .before .before .before .next-tag .ensures) (omega arith) _ _ _ _ (c .before .tag3 .given .1)
 
 cast-t36 : tie.Need-cast-t36
-cast-t36 c = search name-length-fits
+cast-t36 c = name-length-fits _ _ _ (c .before .before .before .next-tag .ensures) (omega arith) _ _ _ _ (c .before .tag3 .given .1)
 
 cast-t37 : tie.Need-cast-t37
-cast-t37 c = search value-fits
+cast-t37 c = value-fits _ _ _ (c .before .before .before .next-tag .ensures) (omega arith) _ _ _ _ (c .before .tag3 .given .1)
 
 cast-t38 : tie.Need-cast-t38
-cast-t38 c = search value-length-fits
+cast-t38 c = value-length-fits _ _ _ (c .before .before .before .next-tag .ensures) (omega arith) _ _ _ _ (c .before .tag3 .given .1)
 
 with-field-requires : tie.Need-with-field-requires
 with-field-requires c κs = search needs
 
 add-of-kept : tie.Need-add-of-kept
-add-of-kept c = search end-fits
+add-of-kept c = end-fits _ _ _ (c .before .before .before .before .before .before .next-tag .ensures) (omega arith) _ _ _ _ (c .before .before .before .before .tag3 .given .1)
 
 of-kept-requires-2 : tie.Need-of-kept-requires-2
 of-kept-requires-2 c κs = search needs
@@ -67,7 +68,7 @@ same-length-2 : tie.Need-same-length-2
 same-length-2 c = search needs
 
 returns : tie.Need-returns
-returns c = search turn-end
+returns c = turn-end _ _ _ _ _ _ _ _ (c .before .before .before .before .before .before .before .next-tag .ensures) _ _ (c .before .before .finish .ensures) (c .before .before .before .before .before .enum-told .given .1)
 
 same-length-3 : tie.Need-same-length-3
 same-length-3 c = search needs
@@ -76,10 +77,10 @@ same-length-4 : tie.Need-same-length-4
 same-length-4 c = search needs
 
 returns-2 : tie.Need-returns-2
-returns-2 c = search turn-eof
+returns-2 c = turn-eof _ _ _ _ _ _ _ _ (c .before .before .before .before .before .before .before .next-tag .ensures) _ _ (c .before .before .finish2 .ensures) (c .before .before .before .before .before .enum-told2 .given .1)
 
 returns-3 : tie.Need-returns-3
-returns-3 c = search turn-eoh
+returns-3 c = turn-eoh _ _ _ _ _ _ _ _ (c .before .before .before .before .next-tag .ensures) _ _ (c .before .before .tag .given .1) (c .of-kept .ensures)
 
 same-length-5 : tie.Need-same-length-5
 same-length-5 c = search needs
@@ -88,16 +89,16 @@ same-length-6 : tie.Need-same-length-6
 same-length-6 c = search needs
 
 returns-4 : tie.Need-returns-4
-returns-4 c = search turn-eor
+returns-4 c = turn-eor _ _ _ _ _ _ _ _ (c .before .before .before .before .before .before .before .before .before .next-tag .ensures) _ (c .before .before .before .before .before .before .before .tag2 .given .1) _ _ (c .before .before .before .close .ensures) _ (c .of-closed .ensures)
 
 same-length-7 : tie.Need-same-length-7
 same-length-7 c = search needs
 
 returns-5 : tie.Need-returns-5
-returns-5 c = search turn-field
+returns-5 c = turn-field _ _ _ _ _ _ _ _ (c .before .before .before .before .before .before .before .next-tag .ensures) _ _ _ _ (c .before .before .before .before .before .tag3 .given .1) _ (c .before .before .with-field .ensures) (c .before .before .before .before .before .before .before .before .before .before .args .hand .now) (c .before .before .with-field .kept .1 .0) (c .before .before .before .before .before .before .before .before .before .before .pre .1) _ (c .of-kept2 .ensures)
 
 returns-6 : tie.Need-returns-6
-returns-6 c = search turn-refused
+returns-6 c = turn-refused _ _ _ _ _ _ _ _ (c .before .before .before .next-tag .ensures) _ (c .before .tag4 .given .1)
 
 pub next-turn-spec : {M : Type 1} → statement M
 next-turn-spec =

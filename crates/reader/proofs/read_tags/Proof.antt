@@ -1,3 +1,4 @@
+use mathlib.Core.Path.{_∙_}
 use borrow.Author.Needs.{needs}
 use Prim.Native.Nat.{ℕ, _≤_, _<_, _-_, _+_, _*_}
 use mathlib.Core.Path.{_≡_, refl}
@@ -29,16 +30,32 @@ same-length : tie.Need-same-length Inv-loop μ-loop
 same-length c = search needs
 
 returns : tie.Need-returns Inv-loop μ-loop
-returns c = search (over-answer, over-shown)
+returns c =
+    let n = c .before .before .before .before .before .before in
+    let l = n .before .before .before .loop in (
+      over-answer _ _ _ _ _ _ _ _ (l .inv .4) (l .inv .2) _ _ _ (n .next-turn .ensures) _ (c .before .turned .given .1),
+      over-shown _ _ _ _ _ _ _ _ (l .inv .4) (l .inv .2) _ _ _ (n .next-turn .ensures) _ (c .before .turned .given .1),
+    )
 
 enum-known-turned-2 : tie.Need-enum-known-turned-2 Inv-loop μ-loop
 enum-known-turned-2 c = search needs
 
 loop-less : tie.Need-loop-less Inv-loop μ-loop
-loop-less c = search going-less
+loop-less c =
+    let n = c .before .before .before .before .before .before in
+    let l = n .before .before .before .loop in
+    going-less _ _ _ _ _ _ _ _ (l .inv .4) (l .inv .2) _ _ _ (n .next-turn .ensures) _ _ _ _ (c .before .turned2 .given .1)
 
 loop-again : tie.Need-loop-again Inv-loop μ-loop
-loop-again c = search (needs, going-held, going-fits, going-on)
+loop-again c =
+    let n = c .before .before .before .before .before .before in
+    let l = n .before .before .before .loop in (
+      n .next-turn .kept .1 .1 .0 ∙ l .inv .0,
+      going-held _ _ _ _ _ _ _ _ (l .inv .4) (l .inv .2) _ _ _ (n .next-turn .ensures) _ _ _ _ (c .before .turned2 .given .1),
+      n .next-turn .kept .1 .0 ∙ l .inv .2,
+      going-fits _ _ _ _ _ _ _ _ (l .inv .4) (l .inv .2) _ _ _ (n .next-turn .ensures) _ _ _ _ (c .before .turned2 .given .1),
+      going-on _ _ _ _ _ _ _ _ (l .inv .4) (l .inv .2) _ _ _ (n .next-turn .ensures) _ _ _ _ (c .before .turned2 .given .1),
+    )
 
 pub read-tags-spec : {M : Type 1} → statement M
 read-tags-spec =
