@@ -10,6 +10,7 @@ use tags::Kind;
 
 // The most fields of a record, and the most records.
 const NAMES: usize = 256;
+
 const RECORDS: u32 = 65_535;
 
 pub enum Verdict {

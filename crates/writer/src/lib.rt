@@ -76,10 +76,7 @@ fn row_size(text: &[u8], row: [u32; 5], ends: bool) -> usize
     ensures { λ r. ⌜ r ≡ length (fieldText (rowField (now (text .entry)) row) ++ endText ends) ⌝ }
     ensures { λ r. ⌜ r ≤ 33554500 ⌝ }
 {
-    let k = fields::field_size(
-        rowcheck::name_of(text, row),
-        rowcheck::value_of(text, row),
-    );
+    let k = fields::field_size(rowcheck::name_of(text, row), rowcheck::value_of(text, row));
     if ends {
         return k + 6;
     }

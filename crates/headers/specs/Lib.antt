@@ -1,0 +1,4 @@
+pub mod Headers
+pub mod Station
+pub mod Answer
+pub mod Examples
