@@ -1,3 +1,4 @@
 pub mod PartLaws
 pub mod InsertLaws
 pub mod TableLaws
+pub mod Determined
