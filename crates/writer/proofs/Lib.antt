@@ -1,3 +1,4 @@
 pub mod RowLaws
 pub mod CheckLaws
 pub mod AnswerLaws
+pub mod Determined
