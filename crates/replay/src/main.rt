@@ -17,7 +17,11 @@ fn answered(line: &[u8], a: &mut [u8], b: &mut [u8], out: &mut [u8]) -> usize
     if 0 < n {
         return n;
     }
-    answers_mhz::answer(op, line, a, out)
+    let k = answers_mhz::answer(op, line, a, out);
+    if 0 < k {
+        return k;
+    }
+    answers_normalize::answer(op, line, a, b, out)
 }
 
 // 1 where the library answers as the line says, else 0; a, b and out are room to work in.
