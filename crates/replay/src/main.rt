@@ -21,6 +21,10 @@ fn answered(line: &[u8], a: &mut [u8], b: &mut [u8], out: &mut [u8]) -> usize
     if 0 < m {
         return m;
     }
+    let k = answers_normalize::answer(op, line, a, b, out);
+    if 0 < k {
+        return k;
+    }
     answers_reader::answer(op, line, a, out)
 }
 
