@@ -7,3 +7,4 @@ pub mod Grouped
 pub mod Accepted
 pub mod Trip
 pub mod Promised
+pub mod Fronts

@@ -4,9 +4,6 @@ use Rattle.fields.proofs.FieldLaws.{field-size, few}
 use borrow.Author.Needs.{needs}
 use Rattle.fields.proofs.field_size.Statement.{statement}
 use Rattle.fields.proofs.field_size.Tie as tie
-use Rattle.fields.proofs.field_size.Reads as reads
-use Rattle.fields.proofs.field_size.Lts as lts
-use Rattle.output.proofs.decimal_size.Reads as decimal-size-reads
 
 add-result : tie.Need-add-result
 add-result c = search needs

@@ -2,11 +2,6 @@ use Rattle.fields.proofs.FieldLaws.{field-first, field-second, field-th
 use borrow.Author.Needs.{needs}
 use Rattle.fields.proofs.put_field.Statement.{statement}
 use Rattle.fields.proofs.put_field.Tie as tie
-use Rattle.fields.proofs.put_field.Reads as reads
-use Rattle.fields.proofs.put_field.Lts as lts
-use Rattle.fields.proofs.put_length.Reads as put-length-reads
-use Rattle.fields.proofs.put_open.Reads as put-open-reads
-use Rattle.fields.proofs.put_value.Reads as put-value-reads
 
 put-open-requires : tie.Need-put-open-requires
 put-open-requires c κs = search field-first

@@ -2,10 +2,6 @@ use Rattle.output.proofs.PutLaws.{room-first, room-next, put-then}
 use borrow.Author.Needs.{needs}
 use Rattle.fields.proofs.put_length.Statement.{statement}
 use Rattle.fields.proofs.put_length.Tie as tie
-use Rattle.fields.proofs.put_length.Reads as reads
-use Rattle.fields.proofs.put_length.Lts as lts
-use Rattle.output.proofs.put_byte.Reads as put-byte-reads
-use Rattle.output.proofs.put_decimal.Reads as put-decimal-reads
 
 put-decimal-requires : tie.Need-put-decimal-requires
 put-decimal-requires c κs = search room-first

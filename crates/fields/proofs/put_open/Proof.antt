@@ -3,10 +3,6 @@ use Rattle.fields.proofs.FieldLaws.{room-second, room-third, put-three}
 use borrow.Author.Needs.{needs}
 use Rattle.fields.proofs.put_open.Statement.{statement}
 use Rattle.fields.proofs.put_open.Tie as tie
-use Rattle.fields.proofs.put_open.Reads as reads
-use Rattle.fields.proofs.put_open.Lts as lts
-use Rattle.output.proofs.put_byte.Reads as put-byte-reads
-use Rattle.fields.proofs.put_raised.Reads as put-raised-reads
 
 put-byte-requires : tie.Need-put-byte-requires
 put-byte-requires c κs = search room-first

@@ -8,9 +8,6 @@ use Rattle.output.proofs.PutLaws.{Half, half-start}
 use Rattle.fields.proofs.FieldLaws.{room-raised, raised-on, raised-end}
 use Rattle.fields.proofs.put_raised.Statement.{statement}
 use Rattle.fields.proofs.put_raised.Tie as tie
-use Rattle.fields.proofs.put_raised.Reads as reads
-use Rattle.fields.proofs.put_raised.Lts as lts
-use Rattle.letters.proofs.raise.Reads as raise-reads
 
 abbrev Inv-loop : tie.InvT-loop
 Inv-loop out₀ at src i₀ out i = (i ≤ length src) × (at + length src ≤ length out₀) × (length out ≡ length out₀) × Half out₀ out at i (capitals src)

@@ -2,10 +2,6 @@ use Rattle.output.proofs.PutLaws.{room-first, room-next, put-then}
 use borrow.Author.Needs.{needs}
 use Rattle.fields.proofs.put_value.Statement.{statement}
 use Rattle.fields.proofs.put_value.Tie as tie
-use Rattle.fields.proofs.put_value.Reads as reads
-use Rattle.fields.proofs.put_value.Lts as lts
-use Rattle.output.proofs.put_byte.Reads as put-byte-reads
-use Rattle.output.proofs.put_bytes.Reads as put-bytes-reads
 
 put-bytes-requires : tie.Need-put-bytes-requires
 put-bytes-requires c κs = search room-first

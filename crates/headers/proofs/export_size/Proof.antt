@@ -4,47 +4,34 @@ use Rattle.headers.proofs.SizeLaws.{export-size}
 use borrow.Author.Needs.{needs}
 use Rattle.headers.proofs.export_size.Statement.{statement}
 use Rattle.headers.proofs.export_size.Tie as tie
-use Rattle.headers.proofs.export_size.Reads as reads
-use Rattle.headers.proofs.export_size.Lts as lts
-use Rattle.headers.proofs.with_field.Reads as with-field-reads
 
--- src/lib.rt:82:27
 slice-aggregate-with-field : tie.Need-slice-aggregate-with-field
 slice-aggregate-with-field c = search needs
 
--- src/lib.rt:82:9
 with-field-requires : tie.Need-with-field-requires
 with-field-requires c κs = search needs
 
--- src/lib.rt:83:27
 slice-aggregate-with-field-2 : tie.Need-slice-aggregate-with-field-2
 slice-aggregate-with-field-2 c = search needs
 
--- src/lib.rt:83:41
 slice-aggregate-with-field-3 : tie.Need-slice-aggregate-with-field-3
 slice-aggregate-with-field-3 c = search needs
 
--- src/lib.rt:83:9
 with-field-requires-2 : tie.Need-with-field-requires-2
 with-field-requires-2 c κs = search needs
 
--- src/lib.rt:84:27
 slice-aggregate-with-field-4 : tie.Need-slice-aggregate-with-field-4
 slice-aggregate-with-field-4 c = search needs
 
--- src/lib.rt:84:9
 with-field-requires-3 : tie.Need-with-field-requires-3
 with-field-requires-3 c κs = search needs
 
--- src/lib.rt:85:19
 slice-aggregate-with-field-5 : tie.Need-slice-aggregate-with-field-5
 slice-aggregate-with-field-5 c = search needs
 
--- src/lib.rt:85:5
 with-field-requires-4 : tie.Need-with-field-requires-4
 with-field-requires-4 c κs = search needs
 
--- src/lib.rt:79:1
 returns : tie.Need-returns
 returns c = search export-size
 

@@ -4,35 +4,25 @@ use Rattle.headers.proofs.SizeLaws.{first-sizes}
 use borrow.Author.Needs.{needs}
 use Rattle.headers.proofs.place_size.Statement.{statement}
 use Rattle.headers.proofs.place_size.Tie as tie
-use Rattle.headers.proofs.place_size.Reads as reads
-use Rattle.headers.proofs.place_size.Lts as lts
-use Rattle.headers.proofs.with_given.Reads as with-given-reads
 
--- src/lib.rt:193:27
 slice-aggregate-with-given : tie.Need-slice-aggregate-with-given
 slice-aggregate-with-given c = search needs
 
--- src/lib.rt:193:9
 with-given-requires : tie.Need-with-given-requires
 with-given-requires c κs = search needs
 
--- src/lib.rt:194:27
 slice-aggregate-with-given-2 : tie.Need-slice-aggregate-with-given-2
 slice-aggregate-with-given-2 c = search needs
 
--- src/lib.rt:194:9
 with-given-requires-2 : tie.Need-with-given-requires-2
 with-given-requires-2 c κs = search needs
 
--- src/lib.rt:195:19
 slice-aggregate-with-given-3 : tie.Need-slice-aggregate-with-given-3
 slice-aggregate-with-given-3 c = search needs
 
--- src/lib.rt:195:5
 with-given-requires-3 : tie.Need-with-given-requires-3
 with-given-requires-3 c κs = search needs
 
--- src/lib.rt:189:1
 returns : tie.Need-returns
 returns c = (search first-sizes, omega arith)
 

@@ -4,31 +4,22 @@ use Rattle.output.proofs.PutLaws.{room-first, room-next, put-then}
 use borrow.Author.Needs.{needs}
 use Rattle.headers.proofs.put_call.Statement.{statement}
 use Rattle.headers.proofs.put_call.Tie as tie
-use Rattle.headers.proofs.put_call.Reads as reads
-use Rattle.headers.proofs.put_call.Lts as lts
-use Rattle.headers.proofs.put_given.Reads as put-given-reads
 
--- src/lib.rt:176:32
 slice-aggregate-put-given : tie.Need-slice-aggregate-put-given
 slice-aggregate-put-given c = search needs
 
--- src/lib.rt:176:9
 put-given-requires : tie.Need-put-given-requires
 put-given-requires c κs = search room-first
 
--- src/lib.rt:177:23
 slice-aggregate-put-given-2 : tie.Need-slice-aggregate-put-given-2
 slice-aggregate-put-given-2 c = search needs
 
--- src/lib.rt:177:5
 put-given-requires-2 : tie.Need-put-given-requires-2
 put-given-requires-2 c κs = search room-next
 
--- src/lib.rt:172:1
 same-length : tie.Need-same-length
 same-length c = search needs
 
--- src/lib.rt:172:1
 returns : tie.Need-returns
 returns c = search put-then
 

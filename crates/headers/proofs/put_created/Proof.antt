@@ -4,32 +4,22 @@ use Rattle.output.proofs.PutLaws.{room-first, room-next, put-then}
 use borrow.Author.Needs.{needs}
 use Rattle.headers.proofs.put_created.Statement.{statement}
 use Rattle.headers.proofs.put_created.Tie as tie
-use Rattle.headers.proofs.put_created.Reads as reads
-use Rattle.headers.proofs.put_created.Lts as lts
-use Rattle.fields.proofs.put_field.Reads as put-field-reads
-use Rattle.output.proofs.put_bytes.Reads as put-bytes-reads
 
--- src/lib.rt:101:40
 slice-aggregate-put-field : tie.Need-slice-aggregate-put-field
 slice-aggregate-put-field c = search needs
 
--- src/lib.rt:101:9
 put-field-requires : tie.Need-put-field-requires
 put-field-requires c κs = search room-first
 
--- src/lib.rt:102:31
 slice-aggregate-put-bytes : tie.Need-slice-aggregate-put-bytes
 slice-aggregate-put-bytes c = search needs
 
--- src/lib.rt:102:5
 put-bytes-requires : tie.Need-put-bytes-requires
 put-bytes-requires c κs = search room-next
 
--- src/lib.rt:97:1
 same-length : tie.Need-same-length
 same-length c = search needs
 
--- src/lib.rt:97:1
 returns : tie.Need-returns
 returns c = search put-then
 

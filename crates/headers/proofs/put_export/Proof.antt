@@ -4,24 +4,16 @@ use Rattle.headers.proofs.TextLaws.{export-first, export-second, export
 use borrow.Author.Needs.{needs}
 use Rattle.headers.proofs.put_export.Statement.{statement}
 use Rattle.headers.proofs.put_export.Tie as tie
-use Rattle.headers.proofs.put_export.Reads as reads
-use Rattle.headers.proofs.put_export.Lts as lts
-use Rattle.headers.proofs.put_created.Reads as put-created-reads
-use Rattle.headers.proofs.put_versions.Reads as put-versions-reads
 
--- src/lib.rt:109:9
 put-versions-requires : tie.Need-put-versions-requires
 put-versions-requires c κs = search export-first
 
--- src/lib.rt:110:5
 put-created-requires : tie.Need-put-created-requires
 put-created-requires c κs = search export-second
 
--- src/lib.rt:105:1
 same-length : tie.Need-same-length
 same-length c = search needs
 
--- src/lib.rt:105:1
 returns : tie.Need-returns
 returns c = search export-put
 

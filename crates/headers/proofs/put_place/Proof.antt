@@ -5,39 +5,28 @@ use Rattle.fields.proofs.FieldLaws.{room-second, room-third, put-three}
 use borrow.Author.Needs.{needs}
 use Rattle.headers.proofs.put_place.Statement.{statement}
 use Rattle.headers.proofs.put_place.Tie as tie
-use Rattle.headers.proofs.put_place.Reads as reads
-use Rattle.headers.proofs.put_place.Lts as lts
-use Rattle.headers.proofs.put_given.Reads as put-given-reads
 
--- src/lib.rt:158:31
 slice-aggregate-put-given : tie.Need-slice-aggregate-put-given
 slice-aggregate-put-given c = search needs
 
--- src/lib.rt:158:9
 put-given-requires : tie.Need-put-given-requires
 put-given-requires c κs = search room-first
 
--- src/lib.rt:159:31
 slice-aggregate-put-given-2 : tie.Need-slice-aggregate-put-given-2
 slice-aggregate-put-given-2 c = search needs
 
--- src/lib.rt:159:9
 put-given-requires-2 : tie.Need-put-given-requires-2
 put-given-requires-2 c κs = search room-second
 
--- src/lib.rt:160:23
 slice-aggregate-put-given-3 : tie.Need-slice-aggregate-put-given-3
 slice-aggregate-put-given-3 c = search needs
 
--- src/lib.rt:160:5
 put-given-requires-3 : tie.Need-put-given-requires-3
 put-given-requires-3 c κs = search room-third
 
--- src/lib.rt:154:1
 same-length : tie.Need-same-length
 same-length c = search needs
 
--- src/lib.rt:154:1
 returns : tie.Need-returns
 returns c = search put-three
 

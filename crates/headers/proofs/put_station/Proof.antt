@@ -4,29 +4,19 @@ use Rattle.headers.proofs.TextLaws.{station-first, station-second, stat
 use borrow.Author.Needs.{needs}
 use Rattle.headers.proofs.put_station.Statement.{statement}
 use Rattle.headers.proofs.put_station.Tie as tie
-use Rattle.headers.proofs.put_station.Reads as reads
-use Rattle.headers.proofs.put_station.Lts as lts
-use Rattle.headers.proofs.put_call.Reads as put-call-reads
-use Rattle.headers.proofs.put_place.Reads as put-place-reads
-use Rattle.headers.proofs.put_region.Reads as put-region-reads
 
--- src/lib.rt:184:9
 put-place-requires : tie.Need-put-place-requires
 put-place-requires c κs = search station-first
 
--- src/lib.rt:185:9
 put-region-requires : tie.Need-put-region-requires
 put-region-requires c κs = search station-second
 
--- src/lib.rt:186:5
 put-call-requires : tie.Need-put-call-requires
 put-call-requires c κs = search station-third
 
--- src/lib.rt:180:1
 same-length : tie.Need-same-length
 same-length c = search needs
 
--- src/lib.rt:180:1
 returns : tie.Need-returns
 returns c = search station-put
 

@@ -5,43 +5,31 @@ use Rattle.fields.proofs.FieldLaws.{room-second, room-third, put-three}
 use borrow.Author.Needs.{needs}
 use Rattle.headers.proofs.put_versions.Statement.{statement}
 use Rattle.headers.proofs.put_versions.Tie as tie
-use Rattle.headers.proofs.put_versions.Reads as reads
-use Rattle.headers.proofs.put_versions.Lts as lts
-use Rattle.fields.proofs.put_field.Reads as put-field-reads
 
--- src/lib.rt:92:39
 slice-aggregate-put-field : tie.Need-slice-aggregate-put-field
 slice-aggregate-put-field c = search needs
 
--- src/lib.rt:92:9
 put-field-requires : tie.Need-put-field-requires
 put-field-requires c κs = search room-first
 
--- src/lib.rt:93:39
 slice-aggregate-put-field-2 : tie.Need-slice-aggregate-put-field-2
 slice-aggregate-put-field-2 c = search needs
 
--- src/lib.rt:93:53
 slice-aggregate-put-field-3 : tie.Need-slice-aggregate-put-field-3
 slice-aggregate-put-field-3 c = search needs
 
--- src/lib.rt:93:9
 put-field-requires-2 : tie.Need-put-field-requires-2
 put-field-requires-2 c κs = search room-second
 
--- src/lib.rt:94:31
 slice-aggregate-put-field-4 : tie.Need-slice-aggregate-put-field-4
 slice-aggregate-put-field-4 c = search needs
 
--- src/lib.rt:94:5
 put-field-requires-3 : tie.Need-put-field-requires-3
 put-field-requires-3 c κs = search room-third
 
--- src/lib.rt:88:1
 same-length : tie.Need-same-length
 same-length c = search needs
 
--- src/lib.rt:88:1
 returns : tie.Need-returns
 returns c = search put-three
 

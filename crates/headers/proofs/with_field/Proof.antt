@@ -4,32 +4,22 @@ use Rattle.headers.proofs.SizeLaws.{with-long, with-size}
 use borrow.Author.Needs.{needs}
 use Rattle.headers.proofs.with_field.Statement.{statement}
 use Rattle.headers.proofs.with_field.Tie as tie
-use Rattle.headers.proofs.with_field.Reads as reads
-use Rattle.headers.proofs.with_field.Lts as lts
-use Rattle.fields.proofs.field_size.Reads as field-size-reads
-use Rattle.headers.proofs.cap.Reads as cap-reads
 
--- src/lib.rt:64:16
 add-result : tie.Need-add-result
 add-result c = search needs
 
--- src/lib.rt:64:9
 returns : tie.Need-returns
 returns c = (search with-long, omega arith)
 
--- src/lib.rt:66:16
 field-size-requires : tie.Need-field-size-requires
 field-size-requires c κs = search needs
 
--- src/lib.rt:66:9
 add-cap : tie.Need-add-cap
 add-cap c = search needs
 
--- src/lib.rt:66:5
 cap-requires : tie.Need-cap-requires
 cap-requires c κs = search needs
 
--- src/lib.rt:58:1
 returns-2 : tie.Need-returns-2
 returns-2 c = (search with-size, omega arith)
 

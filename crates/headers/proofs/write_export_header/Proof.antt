@@ -4,41 +4,28 @@ use Rattle.headers.proofs.AnswerLaws.{bad-text, too-long, short, room, 
 use borrow.Author.Needs.{needs}
 use Rattle.headers.proofs.write_export_header.Statement.{statement}
 use Rattle.headers.proofs.write_export_header.Tie as tie
-use Rattle.headers.proofs.write_export_header.Reads as reads
-use Rattle.headers.proofs.write_export_header.Lts as lts
-use Rattle.headers.proofs.are_utf8.Reads as are-utf8-reads
-use Rattle.headers.proofs.export_size.Reads as export-size-reads
-use Rattle.headers.proofs.put_export.Reads as put-export-reads
 
--- src/lib.rt:118:9
 are-utf8-requires : tie.Need-are-utf8-requires
 are-utf8-requires c κs = search needs
 
--- src/lib.rt:119:9
 returns : tie.Need-returns
 returns c = (search bad-text, refl)
 
--- src/lib.rt:121:9
 export-size-requires : tie.Need-export-size-requires
 export-size-requires c κs = search needs
 
--- src/lib.rt:123:9
 returns-2 : tie.Need-returns-2
 returns-2 c = (search too-long, refl)
 
--- src/lib.rt:126:9
 returns-3 : tie.Need-returns-3
 returns-3 c = (search short, refl)
 
--- src/lib.rt:128:19
 put-export-requires : tie.Need-put-export-requires
 put-export-requires c κs = search room
 
--- src/lib.rt:114:1
 same-length : tie.Need-same-length
 same-length c = search needs
 
--- src/lib.rt:114:1
 returns-4 : tie.Need-returns-4
 returns-4 c = (search done, search done-out)
 

@@ -4,41 +4,28 @@ use Rattle.headers.proofs.AnswerLaws.{bad-text, too-long, short, room, 
 use borrow.Author.Needs.{needs}
 use Rattle.headers.proofs.write_station.Statement.{statement}
 use Rattle.headers.proofs.write_station.Tie as tie
-use Rattle.headers.proofs.write_station.Reads as reads
-use Rattle.headers.proofs.write_station.Lts as lts
-use Rattle.headers.proofs.are_all_utf8.Reads as are-all-utf8-reads
-use Rattle.headers.proofs.put_station.Reads as put-station-reads
-use Rattle.headers.proofs.station_size.Reads as station-size-reads
 
--- src/lib.rt:239:9
 are-all-utf8-requires : tie.Need-are-all-utf8-requires
 are-all-utf8-requires c κs = search needs
 
--- src/lib.rt:240:9
 returns : tie.Need-returns
 returns c = (search bad-text, refl)
 
--- src/lib.rt:242:9
 station-size-requires : tie.Need-station-size-requires
 station-size-requires c κs = search needs
 
--- src/lib.rt:244:9
 returns-2 : tie.Need-returns-2
 returns-2 c = (search too-long, refl)
 
--- src/lib.rt:247:9
 returns-3 : tie.Need-returns-3
 returns-3 c = (search short, refl)
 
--- src/lib.rt:249:19
 put-station-requires : tie.Need-put-station-requires
 put-station-requires c κs = room _ _ _ (c .before .before .before .station-size .ensures) (c .before .before .if2 .left) (c .before .if3 .left)
 
--- src/lib.rt:235:1
 same-length : tie.Need-same-length
 same-length c = search needs
 
--- src/lib.rt:235:1
 returns-4 : tie.Need-returns-4
 returns-4 c = (search done, search done-out)
 

@@ -2,22 +2,16 @@ use Rattle.rowcheck.proofs.CheckLaws.{counted-same, counted-other}
 use borrow.Author.Needs.{needs}
 use Rattle.rowcheck.proofs.count_with.Statement.{statement}
 use Rattle.rowcheck.proofs.count_with.Tie as tie
-use Rattle.rowcheck.proofs.count_with.Reads as reads
-use Rattle.rowcheck.proofs.count_with.Lts as lts
 
--- src/lib.rt:143:8
 array-read-if1 : tie.Need-array-read-if1
 array-read-if1 c = search needs
 
--- src/lib.rt:143:22
 add-result : tie.Need-add-result
 add-result c = search needs
 
--- src/lib.rt:139:1
 returns : tie.Need-returns
 returns c = search counted-same
 
--- src/lib.rt:139:1
 returns-2 : tie.Need-returns-2
 returns-2 c = search counted-other
 

@@ -5,15 +5,6 @@ use Rattle.rowcheck.proofs.FineLaws.{Tally, tally-start}
 use Rattle.writer.proofs.CheckLaws.{Checking, check-start, check-stop, check-record, check-names, check-tally, check-few, check-on, check-end}
 use Rattle.writer.proofs.check_rows.Statement.{statement}
 use Rattle.writer.proofs.check_rows.Tie as tie
-use Rattle.writer.proofs.check_rows.Reads as reads
-use Rattle.writer.proofs.check_rows.Lts as lts
-use Rattle.rowcheck.proofs.count_with.Reads as count-with-reads
-use Rattle.rowcheck.proofs.is_fine.Reads as is-fine-reads
-use Rattle.rowcheck.proofs.record_of.Reads as record-of-reads
-use Rattle.rowcheck.proofs.verdict_of.Reads as verdict-of-reads
-use Rattle.writer.proofs.ends_at.Reads as ends-at-reads
-use Rattle.writer.proofs.row_at.Reads as row-at-reads
-use Rattle.writer.proofs.row_size.Reads as row-size-reads
 
 abbrev Inv-loop : tie.InvT-loop
 Inv-loop text table count n₀ c₀ p₀ size₀ i₀ n c p size i = (i ≤ count) × (n ≤ 65535) × (c ≤ 256) × (i ≤ 16776960) × (size ≤ i * 33554500) × Tally n c i × Checking text table count n c p size i
@@ -21,59 +12,45 @@ Inv-loop text table count n₀ c₀ p₀ size₀ i₀ n c p size i = (i ≤ coun
 abbrev μ-loop : tie.MeasureT-loop
 μ-loop text table count n₀ c₀ p₀ size₀ i₀ n c p size i = count - i
 
--- src/lib.rt:99:5
 loop-holds : tie.Need-loop-holds Inv-loop μ-loop
 loop-holds c = (omega arith, omega arith, omega arith, omega arith, omega arith, tally-start _ _, check-start _ _ _)
 
--- src/lib.rt:100:13
 row-at-requires : tie.Need-row-at-requires Inv-loop μ-loop
 row-at-requires c κs = search needs
 
--- src/lib.rt:101:13
 verdict-of-requires : tie.Need-verdict-of-requires Inv-loop μ-loop
 verdict-of-requires c κs = search needs
 
--- src/lib.rt:102:13
 is-fine-requires : tie.Need-is-fine-requires Inv-loop μ-loop
 is-fine-requires c κs = search needs
 
--- src/lib.rt:103:13
 returns : tie.Need-returns Inv-loop μ-loop
 returns c = search check-stop
 
--- src/lib.rt:105:13
 ends-at-requires : tie.Need-ends-at-requires Inv-loop μ-loop
 ends-at-requires c κs = search needs
 
--- src/lib.rt:106:17
 row-size-requires : tie.Need-row-size-requires Inv-loop μ-loop
 row-size-requires c κs = search needs
 
--- src/lib.rt:106:9
 add-size : tie.Need-add-size Inv-loop μ-loop
 add-size c = search needs
 
--- src/lib.rt:107:9
 count-with-requires : tie.Need-count-with-requires Inv-loop μ-loop
 count-with-requires c κs = search needs
 
--- src/lib.rt:108:9
 record-of-requires : tie.Need-record-of-requires Inv-loop μ-loop
 record-of-requires c κs = search needs
 
--- src/lib.rt:110:9
 add-i : tie.Need-add-i Inv-loop μ-loop
 add-i c = search needs
 
--- src/lib.rt:99:5
 loop-less : tie.Need-loop-less Inv-loop μ-loop
 loop-less c = search needs
 
--- src/lib.rt:99:5
 loop-again : tie.Need-loop-again Inv-loop μ-loop
 loop-again c = (omega arith, search check-record, search check-names, search check-few, omega arith, search check-tally, search check-on)
 
--- src/lib.rt:90:1
 returns-2 : tie.Need-returns-2 Inv-loop μ-loop
 returns-2 c = search check-end
 

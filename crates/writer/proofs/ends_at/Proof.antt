@@ -2,27 +2,19 @@ use Rattle.writer.proofs.RowLaws.{ends-last, ends-more}
 use borrow.Author.Needs.{needs}
 use Rattle.writer.proofs.ends_at.Statement.{statement}
 use Rattle.writer.proofs.ends_at.Tie as tie
-use Rattle.writer.proofs.ends_at.Reads as reads
-use Rattle.writer.proofs.ends_at.Lts as lts
-use Rattle.writer.proofs.record_at.Reads as record-at-reads
 
--- src/lib.rt:66:13
 add-j : tie.Need-add-j
 add-j c = search needs
 
--- src/lib.rt:68:9
 returns : tie.Need-returns
 returns c = search ends-last
 
--- src/lib.rt:70:5
 record-at-requires : tie.Need-record-at-requires
 record-at-requires c κs = search needs
 
--- src/lib.rt:70:28
 record-at-requires-2 : tie.Need-record-at-requires-2
 record-at-requires-2 c κs = search needs
 
--- src/lib.rt:62:1
 returns-2 : tie.Need-returns-2
 returns-2 c = search ends-more
 

@@ -6,11 +6,6 @@ use Rattle.fields.proofs.FieldLaws.{Left, left-length}
 use Rattle.writer.proofs.RowLaws.{left, whole, rows-start, rows-room, rows-on, rows-end}
 use Rattle.writer.proofs.put_rows.Statement.{statement}
 use Rattle.writer.proofs.put_rows.Tie as tie
-use Rattle.writer.proofs.put_rows.Reads as reads
-use Rattle.writer.proofs.put_rows.Lts as lts
-use Rattle.writer.proofs.ends_at.Reads as ends-at-reads
-use Rattle.writer.proofs.put_row.Reads as put-row-reads
-use Rattle.writer.proofs.row_at.Reads as row-at-reads
 
 abbrev Inv-loop : tie.InvT-loop
 Inv-loop out₀ text table count at₀ i₀ out at i = (i ≤ count) × Left out₀ out at (left text table count i) (whole text table count)
@@ -18,39 +13,30 @@ Inv-loop out₀ text table count at₀ i₀ out at i = (i ≤ count) × Left out
 abbrev μ-loop : tie.MeasureT-loop
 μ-loop out₀ text table count at₀ i₀ out at i = count - i
 
--- src/lib.rt:137:5
 loop-holds : tie.Need-loop-holds Inv-loop μ-loop
 loop-holds c = (omega arith, search rows-start)
 
--- src/lib.rt:138:13
 row-at-requires : tie.Need-row-at-requires Inv-loop μ-loop
 row-at-requires c κs = search needs
 
--- src/lib.rt:139:13
 ends-at-requires : tie.Need-ends-at-requires Inv-loop μ-loop
 ends-at-requires c κs = search needs
 
--- src/lib.rt:140:9
 put-row-requires : tie.Need-put-row-requires Inv-loop μ-loop
 put-row-requires c κs = search rows-room
 
--- src/lib.rt:141:9
 add-i : tie.Need-add-i Inv-loop μ-loop
 add-i c = search needs
 
--- src/lib.rt:137:5
 loop-less : tie.Need-loop-less Inv-loop μ-loop
 loop-less c = search needs
 
--- src/lib.rt:137:5
 loop-again : tie.Need-loop-again Inv-loop μ-loop
 loop-again c = (omega arith, search rows-on)
 
--- src/lib.rt:131:1
 same-length : tie.Need-same-length Inv-loop μ-loop
 same-length c = search left-length
 
--- src/lib.rt:131:1
 returns : tie.Need-returns Inv-loop μ-loop
 returns c = search rows-end
 

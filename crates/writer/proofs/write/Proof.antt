@@ -2,52 +2,37 @@ use Rattle.writer.proofs.AnswerLaws.{long-text, long-text-out, many-row
 use borrow.Author.Needs.{needs}
 use Rattle.writer.proofs.write.Statement.{statement}
 use Rattle.writer.proofs.write.Tie as tie
-use Rattle.writer.proofs.write.Reads as reads
-use Rattle.writer.proofs.write.Lts as lts
-use Rattle.writer.proofs.check_rows.Reads as check-rows-reads
-use Rattle.writer.proofs.put_rows.Reads as put-rows-reads
 
--- src/lib.rt:152:9
 returns : tie.Need-returns
 returns c = (search long-text, search long-text-out)
 
--- src/lib.rt:155:9
 returns-2 : tie.Need-returns-2
 returns-2 c = (search many-rows, search many-rows-out)
 
--- src/lib.rt:157:9
 check-rows-requires : tie.Need-check-rows-requires
 check-rows-requires c κs = search needs
 
--- src/lib.rt:159:26
 enum-known-k : tie.Need-enum-known-k
 enum-known-k c = search needs
 
--- src/lib.rt:160:23
 enum-known-k-2 : tie.Need-enum-known-k-2
 enum-known-k-2 c = search needs
 
--- src/lib.rt:162:17
 returns-3 : tie.Need-returns-3
 returns-3 c = (search long-out, search long-out-out)
 
--- src/lib.rt:165:17
 returns-4 : tie.Need-returns-4
 returns-4 c = (search short, search short-out)
 
--- src/lib.rt:167:28
 put-rows-requires : tie.Need-put-rows-requires
 put-rows-requires c κs = (search in-table, search room)
 
--- src/lib.rt:147:1
 returns-5 : tie.Need-returns-5
 returns-5 c = (search unfit, search unfit-out)
 
--- src/lib.rt:147:1
 same-length : tie.Need-same-length
 same-length c = search needs
 
--- src/lib.rt:147:1
 returns-6 : tie.Need-returns-6
 returns-6 c = (search done, search done-out)
 
