@@ -19,6 +19,13 @@ use Rattle.output.specs.Put.{Put, Room}
 use Rattle.writer.specs.Rows.{rowsOf, rowsText}
 use Rattle.writer.specs.Answer.{sizedBy, checkedOf, answerOf, outputOf}
 
+module _ (v : Verdict) (n : ℕ) where
+  pub sized-accepted : v ≡ Accepted → Bytes n ≡ sizedBy v n
+  sized-accepted e = rw e refl
+
+  pub sized-refused : (why : Refusal) → v ≡ Refused why → Unwritten why ≡ sizedBy v n
+  sized-refused why e = rw e refl
+
 pub sized : (v : Verdict) (m n : ℕ) → sizedBy v m ≡ Bytes n → (v ≡ Accepted) × (n ≡ m)
 sized Accepted m n e = (refl, cc)
 sized (Refused why) m n e = absurd (let z : _≡_ {A = ℕ} 0 1 = cc in omega arith)

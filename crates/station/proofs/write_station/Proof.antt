@@ -36,7 +36,7 @@ enum-told c = search needs
 
 -- src/lib.rt:162:28
 put-station-requires : tie.Need-put-station-requires
-put-station-requires c κs = search room
+put-station-requires c κs = room _ _ _ (c .before .before .before .before .station-size .ensures) _ (c .before .before .before .fit .ensures) _ (c .before .enum-told .given .1)
 
 -- src/lib.rt:141:1
 returns-2 : tie.Need-returns-2

@@ -1,3 +1,4 @@
+use Rattle.writer.proofs.AnswerLaws.{sized-accepted, sized-refused}
 use borrow.Author.Needs.{needs}
 use Rattle.writer.proofs.sized_by.Statement.{statement}
 use Rattle.writer.proofs.sized_by.Tie as tie
@@ -14,11 +15,11 @@ enum-known-v c = search needs
 
 -- src/lib.rt:16:1
 returns : tie.Need-returns
-returns c = ?
+returns c = search sized-accepted
 
 -- src/lib.rt:16:1
 returns-2 : tie.Need-returns-2
-returns-2 c = ?
+returns-2 c = search sized-refused
 
 pub sized-by-spec : {M : Type 1} → statement M
 sized-by-spec = tie.close (tie.spec enum-told enum-known-v returns returns-2)

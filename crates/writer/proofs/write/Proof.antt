@@ -1,3 +1,4 @@
+use Rattle.writer.proofs.AnswerLaws.{long-text, long-text-out, many-rows, many-rows-out, in-table, unfit, unfit-out, room, done, done-out}
 use borrow.Author.Needs.{needs}
 use Rattle.writer.proofs.write.Statement.{statement}
 use Rattle.writer.proofs.write.Tie as tie
@@ -9,11 +10,11 @@ use Rattle.writer.proofs.put_rows.Reads as put-rows-reads
 
 -- src/lib.rt:134:9
 returns : tie.Need-returns
-returns c = ?
+returns c = (search long-text, search long-text-out)
 
 -- src/lib.rt:137:9
 returns-2 : tie.Need-returns-2
-returns-2 c = ?
+returns-2 c = (search many-rows, search many-rows-out)
 
 -- src/lib.rt:139:30
 check-rows-requires : tie.Need-check-rows-requires
@@ -33,11 +34,11 @@ enum-told c = search needs
 
 -- src/lib.rt:142:45
 put-rows-requires : tie.Need-put-rows-requires
-put-rows-requires c κs = ?
+put-rows-requires c κs = (search in-table, search room)
 
 -- src/lib.rt:129:1
 returns-3 : tie.Need-returns-3
-returns-3 c = ?
+returns-3 c = (search unfit, search unfit-out)
 
 -- src/lib.rt:129:1
 same-length : tie.Need-same-length
@@ -45,7 +46,7 @@ same-length c = search needs
 
 -- src/lib.rt:129:1
 returns-4 : tie.Need-returns-4
-returns-4 c = ?
+returns-4 c = (search done, search done-out)
 
 pub write-spec : {M : Type 1} → statement M
 write-spec =
