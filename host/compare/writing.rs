@@ -306,8 +306,9 @@ fn names(g: &mut Group) {
         one(g, &name);
     }
     let all = (0..=0x10_FFFFu32).filter_map(char::from_u32);
+    let one_in = g.depth(2_000, 100) as u64;
     for c in all {
-        if c as u32 > 0x100 && !WHITE.contains(&c) && !g.takes(2_000) {
+        if c as u32 > 0x100 && !WHITE.contains(&c) && g.random.below(one_in) > 0 {
             continue;
         }
         for name in [format!("{c}"), format!("{c}x"), format!("x{c}"), format!("x{c}y")] {
