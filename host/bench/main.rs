@@ -6,6 +6,8 @@ mod measure;
 #[cfg(original)]
 mod reading;
 mod rows;
+#[cfg(original)]
+mod writing;
 
 fn main() {
     let arguments: Vec<String> = std::env::args().skip(1).collect();

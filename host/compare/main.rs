@@ -15,6 +15,7 @@ mod reading;
 mod rust;
 mod text;
 mod vectors;
+mod writing;
 
 use harness::Run;
 use std::path::Path;
@@ -41,6 +42,7 @@ fn compare(mut run: Run, folder: &Path) -> ExitCode {
     text::run(&mut run);
     frequency::run(&mut run);
     reading::run(&mut run);
+    writing::run(&mut run);
     vectors::run(&mut run, folder);
     #[cfg(original)]
     normalize::run(&mut run);

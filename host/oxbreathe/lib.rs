@@ -17,6 +17,7 @@ pub mod reading;
 mod refusal;
 pub mod sys;
 pub mod text;
+pub mod writing;
 
 pub use refusal::{Cause, Refusal};
 

@@ -179,6 +179,44 @@ mod c {
         pub fn ox_mhz_to_hz(text: *const u8, length: usize) -> Frequency;
         pub fn ox_hz_to_mhz(hz: u64, out: *mut u8, length: usize) -> Written;
         pub fn ox_read(text: *const u8, length: usize, table: *mut u32, numbers: usize) -> ReadAnswer;
+        pub fn ox_write(
+            text: *const u8,
+            length: usize,
+            table: *const u32,
+            numbers: usize,
+            count: usize,
+            out: *mut u8,
+            room: usize,
+        ) -> Written;
+        pub fn ox_journal_header(out: *mut u8, room: usize) -> Written;
+        pub fn ox_export_header(
+            version: *const u8,
+            version_length: usize,
+            program: *const u8,
+            program_length: usize,
+            created: *const u8,
+            created_length: usize,
+            out: *mut u8,
+            room: usize,
+        ) -> Written;
+        pub fn ox_station_fields(
+            call: *const u8,
+            call_length: usize,
+            grid: *const u8,
+            grid_length: usize,
+            name: *const u8,
+            name_length: usize,
+            state: *const u8,
+            state_length: usize,
+            county: *const u8,
+            county_length: usize,
+            cq: *const u8,
+            cq_length: usize,
+            itu: *const u8,
+            itu_length: usize,
+            out: *mut u8,
+            room: usize,
+        ) -> Written;
     }
 }
 
@@ -252,4 +290,49 @@ pub fn hz_to_mhz(hz: u64, out: &mut [u8]) -> Written {
 }
 pub fn read(text: &[u8], table: &mut [u32]) -> ReadAnswer {
     unsafe { c::ox_read(text.as_ptr(), text.len(), table.as_mut_ptr(), table.len()) }
+}
+pub fn write(text: &[u8], table: &[u32], count: usize, out: &mut [u8]) -> Written {
+    let (numbers, room) = (table.len(), out.len());
+    unsafe { c::ox_write(text.as_ptr(), text.len(), table.as_ptr(), numbers, count, out.as_mut_ptr(), room) }
+}
+pub fn journal_header(out: &mut [u8]) -> Written {
+    unsafe { c::ox_journal_header(out.as_mut_ptr(), out.len()) }
+}
+/// The ADIF version, the program's, and when the file was made.
+pub fn export_header([version, program, created]: [&[u8]; 3], out: &mut [u8]) -> Written {
+    unsafe {
+        c::ox_export_header(
+            version.as_ptr(),
+            version.len(),
+            program.as_ptr(),
+            program.len(),
+            created.as_ptr(),
+            created.len(),
+            out.as_mut_ptr(),
+            out.len(),
+        )
+    }
+}
+/// Call, grid square, name, state, county, CQ zone and ITU zone.
+pub fn station_fields([call, grid, name, state, county, cq, itu]: [&[u8]; 7], out: &mut [u8]) -> Written {
+    unsafe {
+        c::ox_station_fields(
+            call.as_ptr(),
+            call.len(),
+            grid.as_ptr(),
+            grid.len(),
+            name.as_ptr(),
+            name.len(),
+            state.as_ptr(),
+            state.len(),
+            county.as_ptr(),
+            county.len(),
+            cq.as_ptr(),
+            cq.len(),
+            itu.as_ptr(),
+            itu.len(),
+            out.as_mut_ptr(),
+            out.len(),
+        )
+    }
 }

@@ -9,13 +9,10 @@ use lib.ListN.{length, length-append}
 use lib.Dec.{leb}
 use borrow.Author.Tests.{le-leb, lt-leb, leb-true, leb-false}
 use Rattle.text.specs.Pick.{pick}
-use Rattle.text.specs.Space.{blank, trimmed}
 use Rattle.fields.specs.Written.{fieldText, endOfHeader}
 use Rattle.fields.specs.Parts.{fieldAs}
 use Rattle.headers.specs.Headers.{adifVersion, programId, programVersion, createdTimestamp, rigflow, exportHeader}
-use Rattle.headers.specs.Station.{filled, stationText}
 use Rattle.headers.specs.Answer.{capped, cappedAfter}
-use Rattle.headers.proofs.TextLaws.{station-text}
 
 pub cap-small : (n : ℕ) → n ≤ 16777216 → n ≡ capped n
 unfolding capped
@@ -35,7 +32,7 @@ capped-twice a b = by (leb a 16777216) refl
         let h : 16777216 < a = leb-false a 16777216 e in
         ap (λ (k : ℕ). capped (k + b)) (sym (cap-large a h)) ∙ sym (cap-large (16777217 + b) (omega arith)) ∙ cap-large (a + b) (omega arith)
 
-after : (a b : ℕ) (w : List ℕ) → a ≡ capped b → cappedAfter a w ≡ capped (b + length w)
+pub after : (a b : ℕ) (w : List ℕ) → a ≡ capped b → cappedAfter a w ≡ capped (b + length w)
 unfolding cappedAfter
 after a b w e = rw e (capped-twice b (length w))
 
@@ -52,14 +49,6 @@ module _ (name value : List ℕ) where
   pub with-size : (size k r : ℕ) → k ≡ length (fieldText (fieldAs name value)) → r ≡ capped (size + k) → r ≡ cappedAfter size (fieldText (fieldAs name value))
   unfolding cappedAfter
   with-size size k r e p = p ∙ ap (λ (m : ℕ). capped (size + m)) e
-
-  pub given-none : (b : Bool) (size r : ℕ) → b ≡ blank value → b ≡ true → r ≡ capped size → r ≡ cappedAfter size (filled name value)
-  unfolding filled cappedAfter
-  given-none b size r e t p = rw (← e, t, add-zero size) p
-
-  pub given-some : (b : Bool) (v : List ℕ) (size r : ℕ) → b ≡ blank value → b ≡ false → v ≡ trimmed value → r ≡ cappedAfter size (fieldText (fieldAs name v)) → r ≡ cappedAfter size (filled name value)
-  unfolding filled
-  given-some b v size r e t q p = rw (← e, t, ← q) p
 
 -- ---- the whole
 pub export-size : (version program created : List ℕ) (a b c r : ℕ) → a ≡ cappedAfter 6 (fieldText (fieldAs adifVersion version)) → b ≡ cappedAfter a (fieldText (fieldAs programId rigflow))
@@ -90,10 +79,3 @@ first-sizes u v w a b r ea eb er = three-sizes u v w 0 a b r ea eb er ∙ from-z
   where
     from-zero : (x : List ℕ) → cappedAfter 0 x ≡ capped (length x)
     from-zero x = after 0 0 x (cap-small 0 (omega arith)) ∙ ap capped (zero-add (length x))
-
-module _ (call grid name state county cq itu : List ℕ) where
-  pub station-size : (u v w : List ℕ) (a b r : ℕ) → stationText call grid name state county cq itu ≡ u ++ (v ++ w) → a ≡ capped (length u) → b ≡ cappedAfter a v → r ≡ cappedAfter b w
-      → r ≡ capped (length (stationText call grid name state county cq itu))
-  station-size u v w a b r e ea eb er =
-      let pb : b ≡ capped (length u + length v) = eb ∙ after a (length u) v ea in
-      er ∙ after b (length u + length v) w pb ∙ ap capped (omega (arith, ap length e, length-append u (v ++ w), length-append v w))

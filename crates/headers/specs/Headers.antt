@@ -4,8 +4,6 @@ use Prim.Native.Nat.{ℕ}
 use Rattle.adif.specs.Grammar.{Field}
 use Rattle.fields.specs.Written.{headerText}
 use Rattle.fields.specs.Parts.{fieldAs}
-use Rattle.headers.specs.declared.Header.{Header}
-use Rattle.headers.specs.declared.Header.the-variants.{Bytes, BadText, TooLong, Short}
 
 -- "ADIF_VER", "PROGRAMID", "PROGRAMVERSION", "CREATED_TIMESTAMP"
 abbrev pub adifVersion : List ℕ
@@ -39,9 +37,3 @@ exportFields version program created =
 
 unfoldable pub exportHeader : List ℕ → List ℕ → List ℕ → List ℕ
 exportHeader version program created = headerText (exportFields version program created)
-
-abbrev pub numberOf : Header → ℕ
-numberOf (Bytes n) = 0
-numberOf BadText = 11
-numberOf TooLong = 1
-numberOf Short = 13

@@ -1,4 +1,3 @@
 pub mod Headers
-pub mod Station
 pub mod Answer
 pub mod Examples

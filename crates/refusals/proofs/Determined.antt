@@ -17,6 +17,8 @@ use Rattle.refusals.proofs.check_text.Reads as check-text
 use Rattle.refusals.proofs.check_text.Kinds as check-text-kinds
 use Rattle.refusals.proofs.check_texts.Reads as check-texts
 use Rattle.refusals.proofs.check_texts.Kinds as check-texts-kinds
+use Rattle.refusals.proofs.fit.Reads as fit
+use Rattle.refusals.proofs.fit.Kinds as fit-kinds
 
 number-once : Once 0 number-kinds.ps number-kinds.r number.Post
 number-once κs a x y d e p q = p ∙ sym q
@@ -41,3 +43,6 @@ check-text-once κs a x y d e p q = p ∙ sym q
 
 check-texts-once : Once 2 check-texts-kinds.ps check-texts-kinds.r check-texts.Post
 check-texts-once κs a x y d e p q = p ∙ sym q
+
+fit-once : Once 0 fit-kinds.ps fit-kinds.r fit.Post
+fit-once κs a x y d e p q = p ∙ sym q

@@ -1,3 +1,4 @@
 pub mod TruncatedLaws
 pub mod TextLaws
+pub mod WrittenLaws
 pub mod Determined

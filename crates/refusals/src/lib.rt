@@ -1,6 +1,7 @@
 // Why a call refuses, with document 01's numbers; and the test of a plain text, which every call that takes one makes first.
 ghost use mathlib.Core.Path.{_≡_};
 ghost use Rattle.refusals.specs.Refusals.{numberOf, placeOf, nameOf, nameLengthOf, wantedOf, leftOf, ofText, ofTexts};
+ghost use Rattle.refusals.specs.Written.{fitted};
 
 // The longest text, list or output, in bytes.
 pub const LONGEST: usize = 16_777_216;
@@ -33,6 +34,9 @@ pub enum Refusal {
     ManyNames,
     ManyRecords,
     FewRows,
+    // rows or a QSO that are not as they must be
+    BadRow,
+    BadName,
     ShortOutput,
     FrequencyTooHigh,
     InexactFrequency,
@@ -41,6 +45,12 @@ pub enum Refusal {
 pub enum Verdict {
     Accepted,
     Refused(Refusal),
+}
+
+// What a call that writes says: how many bytes it wrote, or would write, or why it does not.
+pub enum Written {
+    Bytes(usize),
+    Unwritten(Refusal),
 }
 
 pub fn number(r: Refusal) -> u32
@@ -62,6 +72,8 @@ pub fn number(r: Refusal) -> u32
         Refusal::ManyNames => 8,
         Refusal::ManyRecords => 9,
         Refusal::FewRows => 10,
+        Refusal::BadRow => 11,
+        Refusal::BadName => 12,
         Refusal::ShortOutput => 13,
         Refusal::FrequencyTooHigh => 14,
         Refusal::InexactFrequency => 15,
@@ -88,6 +100,8 @@ pub fn place(r: Refusal) -> usize
         Refusal::ManyNames => 0,
         Refusal::ManyRecords => 0,
         Refusal::FewRows => 0,
+        Refusal::BadRow => 0,
+        Refusal::BadName => 0,
         Refusal::ShortOutput => 0,
         Refusal::FrequencyTooHigh => 0,
         Refusal::InexactFrequency => 0,
@@ -114,6 +128,8 @@ pub fn name(r: Refusal) -> usize
         Refusal::ManyNames => 0,
         Refusal::ManyRecords => 0,
         Refusal::FewRows => 0,
+        Refusal::BadRow => 0,
+        Refusal::BadName => 0,
         Refusal::ShortOutput => 0,
         Refusal::FrequencyTooHigh => 0,
         Refusal::InexactFrequency => 0,
@@ -139,6 +155,8 @@ pub fn name_length(r: Refusal) -> usize
         Refusal::ManyNames => 0,
         Refusal::ManyRecords => 0,
         Refusal::FewRows => 0,
+        Refusal::BadRow => 0,
+        Refusal::BadName => 0,
         Refusal::ShortOutput => 0,
         Refusal::FrequencyTooHigh => 0,
         Refusal::InexactFrequency => 0,
@@ -165,6 +183,8 @@ pub fn wanted(r: Refusal) -> u64
         Refusal::ManyNames => 0,
         Refusal::ManyRecords => 0,
         Refusal::FewRows => 0,
+        Refusal::BadRow => 0,
+        Refusal::BadName => 0,
         Refusal::ShortOutput => 0,
         Refusal::FrequencyTooHigh => 0,
         Refusal::InexactFrequency => 0,
@@ -190,6 +210,8 @@ pub fn left(r: Refusal) -> u64
         Refusal::ManyNames => 0,
         Refusal::ManyRecords => 0,
         Refusal::FewRows => 0,
+        Refusal::BadRow => 0,
+        Refusal::BadName => 0,
         Refusal::ShortOutput => 0,
         Refusal::FrequencyTooHigh => 0,
         Refusal::InexactFrequency => 0,
@@ -228,4 +250,22 @@ pub fn check_texts(a: &[u8], b: &[u8]) -> Verdict
         return Verdict::Refused(Refusal::NotUtf8(a.len() + second));
     }
     Verdict::Accepted
+}
+
+// What was measured, for an output of so many bytes.
+pub fn fit(measured: Written, room: usize) -> Written
+    ensures { λ r. ⌜ r ≡ fitted measured room ⌝ }
+{
+    match measured {
+        Written::Unwritten(why) => Written::Unwritten(why),
+        Written::Bytes(n) => {
+            if LONGEST < n {
+                return Written::Unwritten(Refusal::TooLong);
+            }
+            if room < n {
+                return Written::Unwritten(Refusal::ShortOutput);
+            }
+            Written::Bytes(n)
+        }
+    }
 }

@@ -16,7 +16,8 @@ use Rattle.letters.specs.declared.Order.{Order}
 use Rattle.tags.specs.Tags.{kindOf}
 use Rattle.tags.specs.declared.Kind.{Kind}
 use Rattle.tags.specs.declared.Kind.the-variants.{EndOfHeader, EndOfRecord, EndOfFile, FieldName}
-use Rattle.rowcheck.specs.declared.Verdict.the-variants.{Fine, BadRow, BadName, ManyNames, ManyRecords}
+use Rattle.refusals.specs.declared.Refusal.the-variants.{BadRow, BadName, ManyNames, ManyRecords}
+use Rattle.refusals.specs.declared.Verdict.the-variants.{Accepted, Refused}
 use Rattle.rowcheck.specs.Check.{Row, recordIn, nameIn, valueIn, placed, sound, isLess, follows, lacks, isField, writable, counted, verdict}
 
 pub is-placed : (text : List ℕ) (r : Row) (m w : ℕ) (t : Bool) → m ≡ getD r 1 0 + getD r 2 0 → w ≡ getD r 3 0 + getD r 4 0
@@ -68,36 +69,36 @@ counted-other n c r e = rw (ne-eqb (recordIn r) n e)
 
 -- the verdict, test by test
 module _ (text : List ℕ) (n c : ℕ) (p r : Row) (a : Bool) (ea : a ≡ placed text r) where
-  pub not-placed : not a ≡ true → BadRow ≡ verdict text n c p r
+  pub not-placed : not a ≡ true → Refused BadRow ≡ verdict text n c p r
   unfolding verdict
   not-placed h = rw (← ea, not-true a h)
 
   module _ (ha : not a ≡ false) (s : Bool) (es : s ≡ sound text r) where
-    pub not-sound : not s ≡ true → BadRow ≡ verdict text n c p r
+    pub not-sound : not s ≡ true → Refused BadRow ≡ verdict text n c p r
     unfolding verdict
     not-sound h = rw (← ea, not-false a ha, ← es, not-true s h)
 
     module _ (hs : not s ≡ false) (b : Bool) (eb : b ≡ follows text n p r) where
-      pub not-next : not b ≡ true → BadRow ≡ verdict text n c p r
+      pub not-next : not b ≡ true → Refused BadRow ≡ verdict text n c p r
       unfolding verdict
       not-next h = rw (← ea, not-false a ha, ← es, not-false s hs, ← eb, not-true b h)
 
       module _ (hb : not b ≡ false) (w : Bool) (ew : w ≡ writable (nameIn text r)) where
-        pub not-named : not w ≡ true → BadName ≡ verdict text n c p r
+        pub not-named : not w ≡ true → Refused BadName ≡ verdict text n c p r
         unfolding verdict
         not-named h = rw (← ea, not-false a ha, ← es, not-false s hs, ← eb, not-false b hb, ← ew, not-true w h)
 
         module _ (hw : not w ≡ false) (k : ℕ) (ek : k ≡ counted n c r) where
-          pub many-names : 256 < k → ManyNames ≡ verdict text n c p r
+          pub many-names : 256 < k → Refused ManyNames ≡ verdict text n c p r
           unfolding verdict
           many-names h = rw (← ea, not-false a ha, ← es, not-false s hs, ← eb, not-false b hb, ← ew, not-false w hw, ← ek, lt-leb k 256 h)
 
-          pub many-records : k ≤ 256 → 65535 < recordIn r → ManyRecords ≡ verdict text n c p r
+          pub many-records : k ≤ 256 → 65535 < recordIn r → Refused ManyRecords ≡ verdict text n c p r
           unfolding verdict
           many-records h g =
               rw (← ea, not-false a ha, ← es, not-false s hs, ← eb, not-false b hb, ← ew, not-false w hw, ← ek, le-leb k 256 h, lt-leb (recordIn r) 65535 g)
 
-          pub all-fine : k ≤ 256 → recordIn r ≤ 65535 → Fine ≡ verdict text n c p r
+          pub all-fine : k ≤ 256 → recordIn r ≤ 65535 → Accepted ≡ verdict text n c p r
           unfolding verdict
           all-fine h g =
               rw (← ea, not-false a ha, ← es, not-false s hs, ← eb, not-false b hb, ← ew, not-false w hw, ← ek, le-leb k 256 h, le-leb (recordIn r) 65535 g)

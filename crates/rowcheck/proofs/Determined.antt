@@ -1,8 +1,6 @@
 -- Each public call's promise is met by one answer. Assumes nothing.
 use mathlib.Core.Path.{sym, _∙_}
 use Rattle.text.proofs.Once.{Once}
-use Rattle.rowcheck.proofs.number.Reads as number
-use Rattle.rowcheck.proofs.number.Kinds as number-kinds
 use Rattle.rowcheck.proofs.is_fine.Reads as is-fine
 use Rattle.rowcheck.proofs.is_fine.Kinds as is-fine-kinds
 use Rattle.rowcheck.proofs.count_with.Reads as count-with
@@ -11,9 +9,6 @@ use Rattle.rowcheck.proofs.record_of.Reads as record-of
 use Rattle.rowcheck.proofs.record_of.Kinds as record-of-kinds
 use Rattle.rowcheck.proofs.verdict_of.Reads as verdict-of
 use Rattle.rowcheck.proofs.verdict_of.Kinds as verdict-of-kinds
-
-number-once : Once 0 number-kinds.ps number-kinds.r number.Post
-number-once κs a x y d e p q = p ∙ sym q
 
 is-fine-once : Once 0 is-fine-kinds.ps is-fine-kinds.r is-fine.Post
 is-fine-once κs a x y d e p q = p ∙ sym q

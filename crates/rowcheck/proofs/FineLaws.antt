@@ -11,8 +11,10 @@ use Rattle.text.specs.Pick.{pick, both, either}
 use Rattle.letters.specs.Order.{orderRaised}
 use Rattle.letters.specs.declared.Order.{Order}
 use Rattle.letters.specs.declared.Order.the-variants.{Less, Equal, Greater}
-use Rattle.rowcheck.specs.declared.Verdict.{Verdict}
-use Rattle.rowcheck.specs.declared.Verdict.the-variants.{Fine, BadRow, BadName, ManyNames, ManyRecords}
+use Rattle.refusals.specs.declared.Refusal.{Refusal}
+use Rattle.refusals.specs.declared.Refusal.the-variants.{BadRow, BadName, ManyNames, ManyRecords}
+use Rattle.refusals.specs.declared.Verdict.{Verdict}
+use Rattle.refusals.specs.declared.Verdict.the-variants.{Accepted, Refused}
 use Rattle.rowcheck.specs.Check.{Row, recordIn, nameIn, placed, sound, isLess, follows, writable, counted, verdict, andThen}
 
 pub both-first : (a b : Bool) → both a b ≡ true → a ≡ true
@@ -23,99 +25,83 @@ pub both-second : (a b : Bool) → both a b ≡ true → b ≡ true
 both-second true b e = e
 both-second false b e = absurd (let z : _≡_ {A = ℕ} 0 1 = cc in omega arith)
 
+refused-not : (why : Refusal) → Refused why ≡ Accepted → ⊥
+refused-not why e = let z : _≡_ {A = ℕ} 0 1 = cc in omega arith
+
 -- a test that passed
-module _ (w : Verdict) (bad : w ≡ Fine → ⊥) where
-  passed : (t : Bool) (v : Verdict) → pick t v w ≡ Fine → t ≡ true
-  passed true v e = refl
-  passed false v e = absurd (bad e)
+passed : (why : Refusal) (t : Bool) (v : Verdict) → pick t v (Refused why) ≡ Accepted → t ≡ true
+passed why true v e = refl
+passed why false v e = absurd (refused-not why e)
 
-  onward : (t : Bool) (v : Verdict) → pick t v w ≡ Fine → v ≡ Fine
-  onward true v e = e
-  onward false v e = absurd (bad e)
+onward : (why : Refusal) (t : Bool) (v : Verdict) → pick t v (Refused why) ≡ Accepted → v ≡ Accepted
+onward why true v e = e
+onward why false v e = absurd (refused-not why e)
 
-bad-row : BadRow ≡ Fine → ⊥
-bad-row e = let z : _≡_ {A = ℕ} 0 1 = cc in omega arith
+pub first-fine : (v w : Verdict) → andThen v w ≡ Accepted → v ≡ Accepted
+first-fine Accepted w e = refl
+first-fine (Refused why) w e = e
 
-bad-name : BadName ≡ Fine → ⊥
-bad-name e = let z : _≡_ {A = ℕ} 0 1 = cc in omega arith
-
-many-names : ManyNames ≡ Fine → ⊥
-many-names e = let z : _≡_ {A = ℕ} 0 1 = cc in omega arith
-
-many-records : ManyRecords ≡ Fine → ⊥
-many-records e = let z : _≡_ {A = ℕ} 0 1 = cc in omega arith
-
-pub first-fine : (v w : Verdict) → andThen v w ≡ Fine → v ≡ Fine
-first-fine Fine w e = refl
-first-fine BadRow w e = e
-first-fine BadName w e = e
-first-fine ManyNames w e = e
-first-fine ManyRecords w e = e
-
-pub rest-fine : (v w : Verdict) → andThen v w ≡ Fine → w ≡ Fine
-rest-fine Fine w e = e
-rest-fine BadRow w e = absurd (bad-row e)
-rest-fine BadName w e = absurd (bad-name e)
-rest-fine ManyNames w e = absurd (many-names e)
-rest-fine ManyRecords w e = absurd (many-records e)
+pub rest-fine : (v w : Verdict) → andThen v w ≡ Accepted → w ≡ Accepted
+rest-fine Accepted w e = e
+rest-fine (Refused why) w e = absurd (refused-not why e)
 
 less : (o : Order) → isLess o ≡ true → o ≡ Less
 less Less e = refl
 less Equal e = absurd (let z : _≡_ {A = ℕ} 0 1 = cc in omega arith)
 less Greater e = absurd (let z : _≡_ {A = ℕ} 0 1 = cc in omega arith)
 
-module _ (text : List ℕ) (n c : ℕ) (p r : Row) (v : verdict text n c p r ≡ Fine) where
+module _ (text : List ℕ) (n c : ℕ) (p r : Row) (v : verdict text n c p r ≡ Accepted) where
   -- the tests that come after places, characters, order and name
   abbrev after-names : Verdict
-  after-names = pick (leb (recordIn r) 65535) Fine ManyRecords
+  after-names = pick (leb (recordIn r) 65535) Accepted (Refused ManyRecords)
 
   abbrev after-name : Verdict
-  after-name = pick (leb (counted n c r) 256) after-names ManyNames
+  after-name = pick (leb (counted n c r) 256) after-names (Refused ManyNames)
 
   abbrev after-order : Verdict
-  after-order = pick (writable (nameIn text r)) after-name BadName
+  after-order = pick (writable (nameIn text r)) after-name (Refused BadName)
 
   abbrev after-sound : Verdict
-  after-sound = pick (follows text n p r) after-order BadRow
+  after-sound = pick (follows text n p r) after-order (Refused BadRow)
 
   abbrev after-placed : Verdict
-  after-placed = pick (sound text r) after-sound BadRow
+  after-placed = pick (sound text r) after-sound (Refused BadRow)
 
-  whole : pick (placed text r) after-placed BadRow ≡ Fine
+  whole : pick (placed text r) after-placed (Refused BadRow) ≡ Accepted
   unfolding verdict
   whole = v
 
   pub is-placed : placed text r ≡ true
-  is-placed = passed BadRow bad-row (placed text r) after-placed whole
+  is-placed = passed BadRow (placed text r) after-placed whole
 
-  from-sound : after-placed ≡ Fine
-  from-sound = onward BadRow bad-row (placed text r) after-placed whole
+  from-sound : after-placed ≡ Accepted
+  from-sound = onward BadRow (placed text r) after-placed whole
 
   pub is-sound : sound text r ≡ true
-  is-sound = passed BadRow bad-row (sound text r) after-sound from-sound
+  is-sound = passed BadRow (sound text r) after-sound from-sound
 
-  from-order : after-sound ≡ Fine
-  from-order = onward BadRow bad-row (sound text r) after-sound from-sound
+  from-order : after-sound ≡ Accepted
+  from-order = onward BadRow (sound text r) after-sound from-sound
 
   follow : follows text n p r ≡ true
-  follow = passed BadRow bad-row (follows text n p r) after-order from-order
+  follow = passed BadRow (follows text n p r) after-order from-order
 
-  from-name : after-order ≡ Fine
-  from-name = onward BadRow bad-row (follows text n p r) after-order from-order
+  from-name : after-order ≡ Accepted
+  from-name = onward BadRow (follows text n p r) after-order from-order
 
   pub is-writable : writable (nameIn text r) ≡ true
-  is-writable = passed BadName bad-name (writable (nameIn text r)) after-name from-name
+  is-writable = passed BadName (writable (nameIn text r)) after-name from-name
 
-  from-names : after-name ≡ Fine
-  from-names = onward BadName bad-name (writable (nameIn text r)) after-name from-name
+  from-names : after-name ≡ Accepted
+  from-names = onward BadName (writable (nameIn text r)) after-name from-name
 
   pub few-names : counted n c r ≤ 256
-  few-names = leb-true (counted n c r) 256 (passed ManyNames many-names (leb (counted n c r) 256) after-names from-names)
+  few-names = leb-true (counted n c r) 256 (passed ManyNames (leb (counted n c r) 256) after-names from-names)
 
   pub few-records : recordIn r ≤ 65535
   few-records =
       leb-true (recordIn r) 65535
-      (passed ManyRecords many-records (leb (recordIn r) 65535) Fine (onward ManyNames many-names (leb (counted n c r) 256) after-names from-names))
+      (passed ManyRecords (leb (recordIn r) 65535) Accepted (onward ManyNames (leb (counted n c r) 256) after-names from-names))
 
   -- the same record, with a higher name; or the next
   abbrev higher-name : Bool
@@ -168,7 +154,7 @@ unfolding Tally
 tally-few n c zero a b t = omega arith
 tally-few n c (suc i) a b t = omega (arith, t (omega arith))
 
-pub tally-on : (text : List ℕ) (n c i : ℕ) (p r : Row) → verdict text n c p r ≡ Fine → c ≤ 256 → Tally n c i → Tally (recordIn r) (counted n c r) (i + 1)
+pub tally-on : (text : List ℕ) (n c i : ℕ) (p r : Row) → verdict text n c p r ≡ Accepted → c ≤ 256 → Tally n c i → Tally (recordIn r) (counted n c r) (i + 1)
 unfolding Tally
 tally-on text n c zero p r v b t h = by (eqb n (recordIn r)) refl
   where

@@ -16,8 +16,9 @@ use Rattle.tags.specs.Tags.{colon, gt, kindOf}
 use Rattle.tags.specs.declared.Kind.{Kind}
 use Rattle.tags.specs.declared.Kind.the-variants.{EndOfHeader, EndOfRecord, EndOfFile, FieldName}
 use Rattle.adif.specs.Reading.{part}
-use Rattle.rowcheck.specs.declared.Verdict.{Verdict}
-use Rattle.rowcheck.specs.declared.Verdict.the-variants.{Fine, BadRow, BadName, ManyNames, ManyRecords}
+use Rattle.refusals.specs.declared.Refusal.the-variants.{BadRow, BadName, ManyNames, ManyRecords}
+use Rattle.refusals.specs.declared.Verdict.{Verdict}
+use Rattle.refusals.specs.declared.Verdict.the-variants.{Accepted, Refused}
 
 -- a row of the lent table: the record's number, the name's place and length, the value's place and length
 abbrev pub Row : Type 0
@@ -73,35 +74,26 @@ verdict text n c p r =
     pick (placed text r)
     (pick (sound text r)
     (pick (follows text n p r)
-    (pick (writable (nameIn text r)) (pick (leb (counted n c r) 256) (pick (leb (recordIn r) 65535) Fine ManyRecords) ManyNames) BadName)
-    BadRow)
-    BadRow)
-    BadRow
+    (pick (writable (nameIn text r))
+    (pick (leb (counted n c r) 256)
+    (pick (leb (recordIn r) 65535) Accepted (Refused ManyRecords))
+    (Refused ManyNames))
+    (Refused BadName))
+    (Refused BadRow))
+    (Refused BadRow))
+    (Refused BadRow)
 
 abbrev pub isFine : Verdict → Bool
-isFine Fine = true
-isFine BadRow = false
-isFine BadName = false
-isFine ManyNames = false
-isFine ManyRecords = false
-
-abbrev pub numberOf : Verdict → ℕ
-numberOf Fine = 0
-numberOf BadRow = 11
-numberOf BadName = 12
-numberOf ManyNames = 8
-numberOf ManyRecords = 9
+isFine Accepted = true
+isFine (Refused why) = false
 
 -- the first verdict that is not fine
 abbrev pub andThen : Verdict → Verdict → Verdict
-andThen Fine w = w
-andThen BadRow w = BadRow
-andThen BadName w = BadName
-andThen ManyNames w = ManyNames
-andThen ManyRecords w = ManyRecords
+andThen Accepted w = w
+andThen (Refused why) w = Refused why
 
 unfoldable pub checkFrom : List ℕ → ℕ → ℕ → Row → List Row → Verdict
-checkFrom text n c p [] = Fine
+checkFrom text n c p [] = Accepted
 checkFrom text n c p (r ∷ rs) = andThen (verdict text n c p r) (checkFrom text (recordIn r) (counted n c r) r rs)
 
 -- all rows, before which there is no record

@@ -4,8 +4,10 @@ ghost use mathlib.Core.Path.{_≡_};
 ghost use Prim.Native.Nat.{_+_, _≤_};
 ghost use lib.ListN.{getD};
 ghost use Rattle.tags.specs.Tags.{kindOf};
-ghost use Rattle.rowcheck.specs.Check.{nameIn, valueIn, placed, lacks, isField, isLess, writable, follows, counted, sound, verdict, isFine, numberOf};
+ghost use Rattle.rowcheck.specs.Check.{nameIn, valueIn, placed, lacks, isField, isLess, writable, follows, counted, sound, verdict, isFine};
 use letters::Order;
+use refusals::Refusal;
+use refusals::Verdict;
 use tags::Kind;
 
 // The most fields of a record, and the most records.
@@ -13,36 +15,12 @@ const NAMES: usize = 256;
 
 const RECORDS: u32 = 65_535;
 
-pub enum Verdict {
-    Fine,
-    BadRow,
-    BadName,
-    ManyNames,
-    ManyRecords,
-}
-
-// Document 01's number, or 0.
-pub fn number(v: Verdict) -> u32
-    ensures { λ r. ⌜ r ≡ numberOf v ⌝ }
-{
-    match v {
-        Verdict::Fine => 0,
-        Verdict::BadRow => 11,
-        Verdict::BadName => 12,
-        Verdict::ManyNames => 8,
-        Verdict::ManyRecords => 9,
-    }
-}
-
 pub fn is_fine(v: Verdict) -> bool
     ensures { λ r. ⌜ r ≡ isFine v ⌝ }
 {
     match v {
-        Verdict::Fine => true,
-        Verdict::BadRow => false,
-        Verdict::BadName => false,
-        Verdict::ManyNames => false,
-        Verdict::ManyRecords => false,
+        Verdict::Accepted => true,
+        Verdict::Refused(_) => false,
     }
 }
 
@@ -156,22 +134,22 @@ pub fn verdict_of(text: &[u8], n: u32, c: usize, p: [u32; 5], row: [u32; 5]) -> 
     ensures { λ r. ⌜ r ≡ verdict (now (text .entry)) n c p row ⌝ }
 {
     if !is_placed(text, row) {
-        return Verdict::BadRow;
+        return Verdict::Refused(Refusal::BadRow);
     }
     if !is_sound(text, row) {
-        return Verdict::BadRow;
+        return Verdict::Refused(Refusal::BadRow);
     }
     if !does_follow(text, n, p, row) {
-        return Verdict::BadRow;
+        return Verdict::Refused(Refusal::BadRow);
     }
     if !can_be_named(text, row) {
-        return Verdict::BadName;
+        return Verdict::Refused(Refusal::BadName);
     }
     if NAMES < count_with(n, c, row) {
-        return Verdict::ManyNames;
+        return Verdict::Refused(Refusal::ManyNames);
     }
     if RECORDS < row[0] {
-        return Verdict::ManyRecords;
+        return Verdict::Refused(Refusal::ManyRecords);
     }
-    Verdict::Fine
+    Verdict::Accepted
 }

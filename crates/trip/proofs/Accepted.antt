@@ -24,7 +24,7 @@ use Rattle.adif.specs.Grammar.{Field, Without}
 use Rattle.adif.specs.Limits.{Before, Ascending}
 use Rattle.adif.proofs.Cuts.{Split, none, found, split, front-found}
 use Rattle.rowcheck.specs.Check.{Row, recordIn, nameIn, valueIn, sound, lacks, isField, writable, counted, verdict, checkFrom, checkOf}
-use Rattle.rowcheck.specs.declared.Verdict.the-variants.{Fine}
+use Rattle.refusals.specs.declared.Verdict.the-variants.{Accepted}
 use Rattle.rowcheck.proofs.FineLaws.{both-first, both-second, first-fine, rest-fine, is-sound, is-writable, few-names, few-records, higher, next-number, from-one, counted-on, counted-new}
 use Rattle.writer.specs.Rows.{rowField, endsBefore, joined, grouped, recordsOf}
 use Rattle.trip.specs.File.{Good, AllGood, Writable, AllWritable}
@@ -91,7 +91,7 @@ unfolding utf8
 utf8-is xs e = eqb-true (validUpTo xs) (length xs) e
 
 module _ (text : List ℕ) (small : length text < 2 ^ 64) where
-  module _ (n c : ℕ) (p r : Row) (v : verdict text n c p r ≡ Fine) where
+  module _ (n c : ℕ) (p r : Row) (v : verdict text n c p r ≡ Accepted) where
     sounds : both (utf8 (nameIn text r)) (utf8 (valueIn text r)) ≡ true
     unfolding sound
     sounds = is-sound text n c p r v
@@ -153,7 +153,7 @@ module _ (text : List ℕ) (small : length text < 2 ^ 64) where
   all-fit c p [] q = tt
   all-fit c p (g ∷ gs) q = (record { some = q .1; few = q .2 .1; fields = q .0 }, q .2 .0, q .3)
 
-  module _ (n c : ℕ) (p r : Row) (v : verdict text n c p r ≡ Fine) where
+  module _ (n c : ℕ) (p r : Row) (v : verdict text n c p r ≡ Accepted) where
     joins : (b b′ : Bool) → endsBefore n (r ∷ []) ≡ b → (gs : List (List Row)) → (b′ ≡ false → gs ≡ [] → ⊥) → Groups b′ (counted n c r) r gs → Groups b c p (joined b′ r gs)
     joins true true e gs k q = ((row-good n c p r v, tt), omega arith, ((tt, tt), omega arith), all-fit (counted n c r) r gs q)
     joins false true e gs k q =
@@ -166,7 +166,7 @@ module _ (text : List ℕ) (small : length text < 2 ^ 64) where
         let z : n ≡ recordIn r = same-number n c p r v e in
         ((row-good n c p r v, q .0), omega arith, ((rises n c p r v z, q .2 .0), omega (arith, q .2 .1, counted-on text n c p r v z)), q .3)
 
-  groups : (rs : List Row) (n c : ℕ) (p : Row) → checkFrom text n c p rs ≡ Fine → Groups (endsBefore n rs) c p (grouped rs)
+  groups : (rs : List Row) (n c : ℕ) (p : Row) → checkFrom text n c p rs ≡ Accepted → Groups (endsBefore n rs) c p (grouped rs)
   unfolding checkFrom
   groups [] n c p e = tt
   groups (r ∷ rs) n c p e =
@@ -179,7 +179,7 @@ module _ (text : List ℕ) (small : length text < 2 ^ 64) where
   going true = 0
   going false = 1
 
-  module _ (n c : ℕ) (p r : Row) (v : verdict text n c p r ≡ Fine) where
+  module _ (n c : ℕ) (p r : Row) (v : verdict text n c p r ≡ Accepted) where
     tally : (b b′ : Bool) → endsBefore n (r ∷ []) ≡ b → (gs : List (List Row)) → (b′ ≡ false → gs ≡ [] → ⊥) → recordIn r + length gs ≤ 65535 + going b′
         → n + length (joined b′ r gs) ≤ 65535 + going b
     tally true true e gs k q = omega (arith, next-number text n c p r v (other-number n c p r v e))
@@ -188,23 +188,23 @@ module _ (text : List ℕ) (small : length text < 2 ^ 64) where
     tally true false e (g ∷ gs) k q = omega (arith, next-number text n c p r v (other-number n c p r v e))
     tally false false e (g ∷ gs) k q = omega (arith, same-number n c p r v e)
 
-  records-few : (rs : List Row) (n c : ℕ) (p : Row) → n ≤ 65535 → checkFrom text n c p rs ≡ Fine → n + length (grouped rs) ≤ 65535 + going (endsBefore n rs)
+  records-few : (rs : List Row) (n c : ℕ) (p : Row) → n ≤ 65535 → checkFrom text n c p rs ≡ Accepted → n + length (grouped rs) ≤ 65535 + going (endsBefore n rs)
   unfolding checkFrom
   records-few [] n c p h e = omega arith
   records-few (r ∷ rs) n c p h e =
-      let v : verdict text n c p r ≡ Fine = first-fine (verdict text n c p r) (checkFrom text (recordIn r) (counted n c r) r rs) e in
+      let v : verdict text n c p r ≡ Accepted = first-fine (verdict text n c p r) (checkFrom text (recordIn r) (counted n c r) r rs) e in
       tally n c p r v (endsBefore n (r ∷ rs)) (endsBefore (recordIn r) rs) refl (grouped rs) (goes-on (recordIn r) rs)
       (records-few rs (recordIn r) (counted n c r) r (few-records text n c p r v) (rest-fine (verdict text n c p r) (checkFrom text (recordIn r) (counted n c r) r rs) e))
 
   -- a first row never goes on with record 0
-  starts : (rs : List Row) (c : ℕ) (p : Row) → checkFrom text 0 c p rs ≡ Fine → endsBefore 0 rs ≡ true
+  starts : (rs : List Row) (c : ℕ) (p : Row) → checkFrom text 0 c p rs ≡ Accepted → endsBefore 0 rs ≡ true
   unfolding checkFrom
   starts [] c p e = refl
   starts (r ∷ rs) c p e =
       let z : 0 < recordIn r = from-one text 0 c p r (first-fine (verdict text 0 c p r) (checkFrom text (recordIn r) (counted 0 c r) r rs) e) in
       rw (ne-eqb 0 (recordIn r) (λ y. omega arith)) refl
 
-  pub accepted : (rs : List Row) → checkOf text rs ≡ Fine → AllFit (grouped rs) × (length (grouped rs) ≤ 65535)
+  pub accepted : (rs : List Row) → checkOf text rs ≡ Accepted → AllFit (grouped rs) × (length (grouped rs) ≤ 65535)
   unfolding checkOf
   accepted rs e =
       let Z : Row = 0 ∷ 0 ∷ 0 ∷ 0 ∷ 0 ∷ [] in

@@ -12,50 +12,19 @@ use borrow.Author.Tests.{leb-true}
 use Rattle.text.specs.Pick.{pick}
 use Rattle.adif.specs.Records.{records, total}
 use Rattle.adif.specs.Reading.{RowsRead, readText}
+use Rattle.refusals.specs.Written.{fitted, outputBy}
+use Rattle.refusals.specs.declared.Refusal.the-variants.{TooLong, BadRow}
+use Rattle.refusals.specs.declared.Verdict.the-variants.{Accepted}
+use Rattle.refusals.specs.declared.Written.{Written}
+use Rattle.refusals.specs.declared.Written.the-variants.{Bytes, Unwritten}
+use Rattle.refusals.proofs.WrittenLaws.{passed, fits}
 use Rattle.rowcheck.specs.Check.{checkOf}
-use Rattle.rowcheck.specs.declared.Verdict.{Verdict}
-use Rattle.rowcheck.specs.declared.Verdict.the-variants.{Fine, BadRow, BadName, ManyNames, ManyRecords}
 use Rattle.writer.specs.Rows.{rowsOf, rowsText, recordsOf}
-use Rattle.writer.specs.Answer.{sizedBy, checkedOf, answerBy, answerOf, outputBy, outputOf}
-use Rattle.writer.specs.declared.Checked.{Checked}
-use Rattle.writer.specs.declared.Checked.the-variants.{Size, Refused}
-use Rattle.writer.specs.declared.Written.{Written}
-use Rattle.writer.specs.declared.Written.the-variants.{Bytes, TooLong, Unfit, Short}
+use Rattle.writer.specs.Answer.{checkedOf, answerOf, outputOf}
+use Rattle.writer.proofs.AnswerLaws.{sized}
 use Rattle.trip.specs.File.{Front, frontText, Fit}
 use Rattle.trip.proofs.Back.{told}
 use Rattle.trip.proofs.Trip.{trip}
-
--- ---- what an answer of n bytes says
-long-is : (n : ℕ) → TooLong ≡ Bytes n → ⊥
-long-is n e = let z : _≡_ {A = ℕ} 0 1 = cc in omega arith
-
-unfit-is : (v : Verdict) (n : ℕ) → Unfit v ≡ Bytes n → ⊥
-unfit-is v n e = let z : _≡_ {A = ℕ} 0 1 = cc in omega arith
-
-short-is : (n : ℕ) → Short ≡ Bytes n → ⊥
-short-is n e = let z : _≡_ {A = ℕ} 0 1 = cc in omega arith
-
-module _ (n : ℕ) where
-  passed : (t : Bool) (v w : Written) → (w ≡ Bytes n → ⊥) → pick t v w ≡ Bytes n → (t ≡ true) × (v ≡ Bytes n)
-  passed true v w k e = (refl, e)
-  passed false v w k e = absurd (k e)
-
-  module _ (room : ℕ) where
-    sized : (k : Checked) → answerBy room k ≡ Bytes n → (k ≡ Size n) × (n ≤ room)
-    unfolding answerBy
-    sized (Refused v) e = absurd (unfit-is v n e)
-    sized (Size m) e =
-        let p : (leb m 16777216 ≡ true) × (pick (leb m room) (Bytes m) Short ≡ Bytes n) = passed (leb m 16777216) (pick (leb m room) (Bytes m) Short) TooLong (long-is n) e in
-        let q : (leb m room ≡ true) × (Bytes m ≡ Bytes n) = passed (leb m room) (Bytes m) Short (short-is n) (p .1) in
-        let z : m ≡ n = cc in
-        (ap Size z, omega (arith, leb-true m room (q .0)))
-
-fine : (v : Verdict) (m n : ℕ) → sizedBy v m ≡ Size n → (v ≡ Fine) × (n ≡ m)
-fine Fine m n e = (refl, cc)
-fine BadRow m n e = absurd (let z : _≡_ {A = ℕ} 0 1 = cc in omega arith)
-fine BadName m n e = absurd (let z : _≡_ {A = ℕ} 0 1 = cc in omega arith)
-fine ManyNames m n e = absurd (let z : _≡_ {A = ℕ} 0 1 = cc in omega arith)
-fine ManyRecords m n e = absurd (let z : _≡_ {A = ℕ} 0 1 = cc in omega arith)
 
 -- ---- what was set at the front of an output, and what stands behind it
 front-set : (l w : List ℕ) → length w ≤ length l → sets l 0 w ≡ w ++ drop (length w) l
@@ -74,34 +43,39 @@ module _ (text table : List ℕ) (count : ℕ) (was : List ℕ) (answer : Writte
   is : answerOf text table count (length was) ≡ Bytes n
   is = sym a ∙ wrote
 
-  first : (leb (length text) 16777216 ≡ true) × (pick (leb count (length table / 5)) (answerBy (length was) (checkedOf text (rowsOf table count))) (Unfit BadRow) ≡ Bytes n)
+  abbrev rows-fit : Written
+  rows-fit = fitted (checkedOf text (rowsOf table count)) (length was)
+
+  first : (leb (length text) 16777216 ≡ true) × (pick (leb count (length table / 5)) rows-fit (Unwritten BadRow) ≡ Bytes n)
   unfolding answerOf
-  first = passed n (leb (length text) 16777216) (pick (leb count (length table / 5)) (answerBy (length was) (checkedOf text (rowsOf table count))) (Unfit BadRow)) TooLong (long-is n) is
+  first = passed n (leb (length text) 16777216) (pick (leb count (length table / 5)) rows-fit (Unwritten BadRow)) TooLong is
 
-  second : answerBy (length was) (checkedOf text (rowsOf table count)) ≡ Bytes n
-  second = passed n (leb count (length table / 5)) (answerBy (length was) (checkedOf text (rowsOf table count))) (Unfit BadRow) (unfit-is BadRow n) (first .1) .1
+  second : (checkedOf text (rowsOf table count) ≡ Bytes n) × (n ≤ 16777216) × (n ≤ length was)
+  second = fits n (checkedOf text (rowsOf table count)) (length was) (passed n (leb count (length table / 5)) rows-fit BadRow (first .1) .1)
 
-  pub taken : checkOf text (rowsOf table count) ≡ Fine
+  checked : (checkOf text (rowsOf table count) ≡ Accepted) × (n ≡ length (rowsText text (rowsOf table count)))
   unfolding checkedOf
-  taken = fine (checkOf text (rowsOf table count)) (length (rowsText text (rowsOf table count))) n (sized n (length was) (checkedOf text (rowsOf table count)) second .0) .0
+  checked = sized (checkOf text (rowsOf table count)) (length (rowsText text (rowsOf table count))) n (second .0)
+
+  pub taken : checkOf text (rowsOf table count) ≡ Accepted
+  taken = checked .0
 
   size-is : n ≡ length (rowsText text (rowsOf table count))
-  unfolding checkedOf
-  size-is = fine (checkOf text (rowsOf table count)) (length (rowsText text (rowsOf table count))) n (sized n (length was) (checkedOf text (rowsOf table count)) second .0) .1
+  size-is = checked .1
 
   set-is : out ≡ sets was 0 (rowsText text (rowsOf table count))
   unfolding outputOf
   set-is = o ∙ rw is refl
 
-  fits : length (rowsText text (rowsOf table count)) ≤ length was
-  fits = omega (arith, size-is, sized n (length was) (checkedOf text (rowsOf table count)) second .1)
+  in-room : length (rowsText text (rowsOf table count)) ≤ length was
+  in-room = omega (arith, size-is, second .2)
 
   -- the n bytes at the front of the output are the rows' text, and what stands behind them is untouched
   pub written : take n out ≡ rowsText text (rowsOf table count)
-  written = rw (set-is, size-is) (take-set was (rowsText text (rowsOf table count)) fits)
+  written = rw (set-is, size-is) (take-set was (rowsText text (rowsOf table count)) in-room)
 
   pub untouched : drop n out ≡ drop n was
-  untouched = rw (set-is, size-is) (drop-set was (rowsText text (rowsOf table count)) fits)
+  untouched = rw (set-is, size-is) (drop-set was (rowsText text (rowsOf table count)) in-room)
 
   -- what the writer wrote, behind a front, is read as the rows' records
   pub trip-promised : (front : Front) → Fit front → (s : List ℕ) → s ≡ frontText front ++ take n out → length s ≤ 16777216 → (room : ℕ) → total (recordsOf text (rowsOf table count)) ≤ room

@@ -12,7 +12,7 @@ use Rattle.adif.specs.Grammar.{Field, Items, Says}
 use Rattle.adif.specs.Limits.{Ascending}
 use Rattle.adif.specs.Reading.{readText}
 use Rattle.rowcheck.specs.Check.{Row, checkOf}
-use Rattle.rowcheck.specs.declared.Verdict.the-variants.{Fine}
+use Rattle.refusals.specs.declared.Verdict.the-variants.{Accepted}
 use Rattle.writer.specs.Rows.{rowField, rowsText, grouped, recordsOf}
 use Rattle.trip.specs.File.{Comment, Front, bare, header, frontText, Fit, Records, recordsText, fileText, Writable, AllWritable, gathered, readAs}
 use Rattle.trip.proofs.Says.{file-says, frontItems, allItems}
@@ -84,7 +84,7 @@ module _ (rs : List (List Field)) (w : Fits rs) (few : length rs ≤ 65535) (fro
       read-back front b (between gs rs) (between-writable gs c rs w) last l (rw (between-length gs rs) few) room (rw (between-read gs rs w) h) n
       ∙ ap records (between-read gs rs w)
 
-module _ (text : List ℕ) (small : length text < 2 ^ 64) (rows : List Row) (ok : checkOf text rows ≡ Fine) where
+module _ (text : List ℕ) (small : length text < 2 ^ 64) (rows : List Row) (ok : checkOf text rows ≡ Accepted) where
   pub rows-fit : Fits (recordsOf text rows)
   rows-fit = fits text small (grouped rows) (accepted text small rows ok .0)
 
@@ -111,7 +111,7 @@ module _ (text : List ℕ) (small : length text < 2 ^ 64) (rows : List Row) (ok 
     written-says = rw together (records-say (recordsOf text rows) rows-fit rows-few front b [] tt [] no-comment)
 
 -- two lists of rows that the writer takes and that stand for different records give different texts
-pub no-two : (text text′ : List ℕ) → length text < 2 ^ 64 → length text′ < 2 ^ 64 → (rows rows′ : List Row) → checkOf text rows ≡ Fine → checkOf text′ rows′ ≡ Fine
+pub no-two : (text text′ : List ℕ) → length text < 2 ^ 64 → length text′ < 2 ^ 64 → (rows rows′ : List Row) → checkOf text rows ≡ Accepted → checkOf text′ rows′ ≡ Accepted
     → rowsText text rows ≡ rowsText text′ rows′ → recordsOf text rows ≡ recordsOf text′ rows′
 no-two text text′ s s′ rows rows′ ok ok′ e =
     let A : List (List Field) = recordsOf text rows in

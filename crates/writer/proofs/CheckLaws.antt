@@ -8,14 +8,14 @@ use native.Mathlib.Omega.{arith}
 use lib.ListN.{length, getD, length-append}
 use borrow.Author.Tests.{not-true, not-false}
 use Rattle.fields.specs.Written.{fieldText}
+use Rattle.refusals.specs.declared.Verdict.{Verdict}
+use Rattle.refusals.specs.declared.Verdict.the-variants.{Accepted, Refused}
+use Rattle.refusals.specs.declared.Written.{Written}
+use Rattle.refusals.specs.declared.Written.the-variants.{Bytes, Unwritten}
 use Rattle.rowcheck.specs.Check.{Row, recordIn, counted, verdict, isFine, andThen, checkFrom, checkOf}
-use Rattle.rowcheck.specs.declared.Verdict.{Verdict}
-use Rattle.rowcheck.specs.declared.Verdict.the-variants.{Fine, BadRow, BadName, ManyNames, ManyRecords}
 use Rattle.rowcheck.proofs.FineLaws.{few-names, few-records, Tally, tally-on, tally-few}
 use Rattle.writer.specs.Rows.{rowAt, rowsFrom, rowsOf, rowField, endsBefore, endText, rowsText}
 use Rattle.writer.specs.Answer.{sizedBy, checkedOf}
-use Rattle.writer.specs.declared.Checked.{Checked}
-use Rattle.writer.specs.declared.Checked.the-variants.{Size, Refused}
 use Rattle.writer.proofs.RowLaws.{rows-cons, left, left-all, left-none, left-cons}
 
 -- the rows from i on, after row p, the c-th of record n: they decide the verdict, and what they take is still to be counted
@@ -27,22 +27,16 @@ pub check-start : (text t : List ℕ) (count : ℕ) → Checking text t count 0 
 unfolding Checking checkOf rowsOf
 check-start text t count = (rw (sub-zero count) refl, omega (arith, ap length (left-all text t count)))
 
-fine : (v : Verdict) (f : Bool) → f ≡ isFine v → not f ≡ false → v ≡ Fine
+fine : (v : Verdict) (f : Bool) → f ≡ isFine v → not f ≡ false → v ≡ Accepted
 fine v f e h = by v (sym e ∙ not-false f h)
   where
-    by : (w : Verdict) → isFine w ≡ true → w ≡ Fine
-    by Fine e = refl
-    by BadRow e = absurd (let z : _≡_ {A = ℕ} 0 1 = cc in omega arith)
-    by BadName e = absurd (let z : _≡_ {A = ℕ} 0 1 = cc in omega arith)
-    by ManyNames e = absurd (let z : _≡_ {A = ℕ} 0 1 = cc in omega arith)
-    by ManyRecords e = absurd (let z : _≡_ {A = ℕ} 0 1 = cc in omega arith)
+    by : (w : Verdict) → isFine w ≡ true → w ≡ Accepted
+    by Accepted e = refl
+    by (Refused why) e = absurd (let z : _≡_ {A = ℕ} 0 1 = cc in omega arith)
 
-stops : (v w : Verdict) (n : ℕ) → isFine v ≡ false → Refused v ≡ sizedBy (andThen v w) n
-stops Fine w n e = absurd (let z : _≡_ {A = ℕ} 0 1 = cc in omega arith)
-stops BadRow w n e = refl
-stops BadName w n e = refl
-stops ManyNames w n e = refl
-stops ManyRecords w n e = refl
+stops : (v w : Verdict) (n : ℕ) (r : Written) → isFine v ≡ false → r ≡ sizedBy v 0 → r ≡ sizedBy (andThen v w) n
+stops Accepted w n r e p = absurd (let z : _≡_ {A = ℕ} 0 1 = cc in omega arith)
+stops (Refused why) w n r e p = p
 
 module _ (text t : List ℕ) (count n c : ℕ) (p : Row) (size i : ℕ) (h : i < count) (row : Row) (er : row ≡ rowAt t i)
     (v : Verdict) (ev : v ≡ verdict text n c p row) (f : Bool) (ef : f ≡ isFine v) where
@@ -50,12 +44,12 @@ module _ (text t : List ℕ) (count n c : ℕ) (p : Row) (size i : ℕ) (h : i <
   unfolding checkFrom
   from = rw (rows-cons t count i h, ev, er) refl
 
-  pub check-stop : not f ≡ true → Checking text t count n c p size i → Refused v ≡ checkedOf text (rowsOf t count)
+  pub check-stop : not f ≡ true → Checking text t count n c p size i → (r : Written) → r ≡ sizedBy v 0 → r ≡ checkedOf text (rowsOf t count)
   unfolding Checking checkedOf
-  check-stop g q = rw (← q .0, from) (stops v _ _ (sym ef ∙ not-true f g))
+  check-stop g q r e = rw (← q .0, from) (stops v _ _ r (sym ef ∙ not-true f g) e)
 
   module _ (g : not f ≡ false) where
-    is-fine : verdict text n c p row ≡ Fine
+    is-fine : verdict text n c p row ≡ Accepted
     is-fine = sym ev ∙ fine v f ef g
 
     module _ (m : ℕ) (em : m ≡ recordIn row) where
@@ -81,11 +75,11 @@ module _ (text t : List ℕ) (count n c : ℕ) (p : Row) (size i : ℕ) (h : i <
         omega (arith, q .1, ek, ap length (left-cons text t count i h row er ends ee), length-append (fieldText (rowField text row) ++ endText ends) (left text t count (i + 1))),
       )
 
-pub check-end : (text t : List ℕ) (count n c : ℕ) (p : Row) (size i : ℕ) → count ≤ i → Checking text t count n c p size i → Size size ≡ checkedOf text (rowsOf t count)
+pub check-end : (text t : List ℕ) (count n c : ℕ) (p : Row) (size i : ℕ) → count ≤ i → Checking text t count n c p size i → Bytes size ≡ checkedOf text (rowsOf t count)
 unfolding Checking checkedOf checkFrom rowsText
 check-end text t count n c p size i h q =
     let z : count - i ≡ 0 = omega arith in
-    let a : Fine ≡ checkOf text (rowsOf t count) = rw z at (q .0) in
+    let a : Accepted ≡ checkOf text (rowsOf t count) = rw z at (q .0) in
     let b : size + 0 ≡ length (rowsText text (rowsOf t count)) = rw z at (q .1) in
     let b′ : size ≡ length (rowsText text (rowsOf t count)) = omega arith in
     rw (← a, ← b′) refl

@@ -7,33 +7,18 @@ ghost use Rattle.rowcheck.specs.Check.{recordIn};
 ghost use Rattle.fields.specs.Written.{fieldText};
 ghost use Rattle.output.specs.Put.{Put, Room};
 ghost use Rattle.writer.specs.Rows.{rowAt, rowsFrom, rowsOf, rowField, endsBefore, endText, rowsText};
-ghost use Rattle.writer.specs.Answer.{checkedOf, answerOf, outputOf, numberOf};
-use rowcheck::Verdict;
+ghost use Rattle.writer.specs.Answer.{sizedBy, checkedOf, answerOf, outputOf};
+use refusals::Refusal;
+use refusals::Verdict;
+use refusals::Written;
 
-// The longest text that is taken, and the longest that is written.
-const LONGEST: usize = 16_777_216;
-
-pub enum Checked {
-    Size(usize),
-    Refused(Verdict),
-}
-
-pub enum Written {
-    Bytes(usize),
-    TooLong,
-    Unfit(Verdict),
-    Short,
-}
-
-// Document 01's number, or 0.
-pub fn number(w: Written) -> u32
-    ensures { λ r. ⌜ r ≡ numberOf w ⌝ }
+// The size of the rows' text, or why it is not written.
+fn sized_by(v: Verdict, size: usize) -> Written
+    ensures { λ r. ⌜ r ≡ sizedBy v size ⌝ }
 {
-    match w {
-        Written::Bytes(_) => 0,
-        Written::TooLong => 1,
-        Written::Unfit(v) => rowcheck::number(v),
-        Written::Short => 13,
+    match v {
+        Verdict::Accepted => Written::Bytes(size),
+        Verdict::Refused(why) => Written::Unwritten(why),
     }
 }
 
@@ -83,8 +68,8 @@ fn row_size(text: &[u8], row: [u32; 5], ends: bool) -> usize
     k
 }
 
-// The size of the rows' text, or why it is not written.
-fn check_rows(text: &[u8], table: &[u32], count: usize) -> Checked
+// All rows are checked, and their text is measured.
+fn check_rows(text: &[u8], table: &[u32], count: usize) -> Written
     requires { ⌜ (length (now text) ≤ 16777216) × (count * 5 ≤ length (now table)) ⌝ }
     ensures { λ r. ⌜ r ≡ checkedOf (now (text .entry)) (rowsOf (now (table .entry)) count) ⌝ }
 {
@@ -97,7 +82,7 @@ fn check_rows(text: &[u8], table: &[u32], count: usize) -> Checked
         let row = row_at(table, i);
         let v = rowcheck::verdict_of(text, n, c, p, row);
         if !rowcheck::is_fine(v) {
-            return Checked::Refused(v);
+            return sized_by(v, 0);
         }
         let ends = ends_at(table, count, i);
         size += row_size(text, row, ends);
@@ -106,7 +91,7 @@ fn check_rows(text: &[u8], table: &[u32], count: usize) -> Checked
         p = row;
         i += 1;
     }
-    Checked::Size(size)
+    Written::Bytes(size)
 }
 
 fn put_row(out: &mut [u8], at: usize, text: &[u8], row: [u32; 5], ends: bool) -> usize
@@ -145,23 +130,15 @@ pub fn write(text: &[u8], table: &[u32], count: usize, out: &mut [u8]) -> Writte
     ensures { λ r. ⌜ r ≡ answerOf (now (text .entry)) (now (table .entry)) count (length (now (out .entry))) ⌝ }
     ensures { λ _. ⌜ now (out .exit) ≡ outputOf (now (text .entry)) (now (table .entry)) count (now (out .entry)) ⌝ }
 {
-    if LONGEST < text.len() {
-        return Written::TooLong;
+    if refusals::LONGEST < text.len() {
+        return Written::Unwritten(Refusal::TooLong);
     }
     if table.len() / 5 < count {
-        return Written::Unfit(Verdict::BadRow);
+        return Written::Unwritten(Refusal::BadRow);
     }
-    let k = check_rows(text, table, count);
-    match k {
-        Checked::Refused(v) => Written::Unfit(v),
-        Checked::Size(n) => {
-            if LONGEST < n {
-                return Written::TooLong;
-            }
-            if out.len() < n {
-                return Written::Short;
-            }
-            Written::Bytes(put_rows(out, text, table, count))
-        }
+    let fits = refusals::fit(check_rows(text, table, count), out.len());
+    match fits {
+        Written::Unwritten(why) => Written::Unwritten(why),
+        Written::Bytes(_) => Written::Bytes(put_rows(out, text, table, count)),
     }
 }

@@ -24,6 +24,9 @@ verdict-of-requires c κs = search needs
 is-fine-requires : tie.Need-is-fine-requires Inv-loop μ-loop
 is-fine-requires c κs = search needs
 
+sized-by-requires : tie.Need-sized-by-requires Inv-loop μ-loop
+sized-by-requires c κs = search needs
+
 returns : tie.Need-returns Inv-loop μ-loop
 returns c = search check-stop
 
@@ -64,6 +67,7 @@ check-rows-spec =
     row-at-requires
     verdict-of-requires
     is-fine-requires
+    sized-by-requires
     returns
     ends-at-requires
     row-size-requires

@@ -1,0 +1,2 @@
+pub mod WriteAnswers
+pub mod Determined

@@ -1,0 +1,44 @@
+use native.Mathlib.Omega.{arith}
+use mathlib.Core.Path.{refl}
+use Rattle.output.proofs.PutLaws.{room-first}
+use Rattle.fields.proofs.FieldLaws.{room-second, room-third, put-three}
+use borrow.Author.Needs.{needs}
+use Rattle.station.proofs.put_place.Statement.{statement}
+use Rattle.station.proofs.put_place.Tie as tie
+
+slice-aggregate-put-given : tie.Need-slice-aggregate-put-given
+slice-aggregate-put-given c = search needs
+
+put-given-requires : tie.Need-put-given-requires
+put-given-requires c κs = search room-first
+
+slice-aggregate-put-given-2 : tie.Need-slice-aggregate-put-given-2
+slice-aggregate-put-given-2 c = search needs
+
+put-given-requires-2 : tie.Need-put-given-requires-2
+put-given-requires-2 c κs = search room-second
+
+slice-aggregate-put-given-3 : tie.Need-slice-aggregate-put-given-3
+slice-aggregate-put-given-3 c = search needs
+
+put-given-requires-3 : tie.Need-put-given-requires-3
+put-given-requires-3 c κs = search room-third
+
+same-length : tie.Need-same-length
+same-length c = search needs
+
+returns : tie.Need-returns
+returns c = search put-three
+
+pub put-place-spec : {M : Type 1} → statement M
+put-place-spec =
+    tie.close
+    (tie.spec
+    slice-aggregate-put-given
+    put-given-requires
+    slice-aggregate-put-given-2
+    put-given-requires-2
+    slice-aggregate-put-given-3
+    put-given-requires-3
+    same-length
+    returns)
