@@ -101,7 +101,7 @@ fn two_at(s: &[u8], at: usize) -> u64
 }
 
 fn four_at(s: &[u8], at: usize) -> u64
-    requires { ⌜ at ≤ 16780000 ⌝ }
+    requires { ⌜ at ≤ 16779000 ⌝ }
     ensures { λ r. ⌜ r ≡ numberAt (now (s .entry)) at 4 ⌝ }
     ensures { λ r. ⌜ r < 4294967296 ⌝ }
 {

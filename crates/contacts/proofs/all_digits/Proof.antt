@@ -1,46 +1,42 @@
+use mathlib.Core.Path.{_≡_, refl}
+use Prim.Native.Nat.{_≤_, _-_}
+use lib.ListN.{length, drop}
+use borrow.Author.Needs.{needs}
+use Rattle.decimal.specs.Decimal.{allDigits}
+use Rattle.contacts.proofs.EntryLaws.{digits-stop, digits-on, digits-end}
 use Rattle.contacts.proofs.all_digits.Statement.{statement}
 use Rattle.contacts.proofs.all_digits.Tie as tie
-use Rattle.contacts.proofs.all_digits.Reads as reads
-use Rattle.contacts.proofs.all_digits.Lts as lts
 use Rattle.text.proofs.inside.Reads as inside-reads
 
 abbrev Inv-loop : tie.InvT-loop
-Inv-loop s i₀ i = ?
+Inv-loop s i₀ i = (i ≤ length s) × (allDigits (drop i s) ≡ allDigits s)
 
 abbrev μ-loop : tie.MeasureT-loop
-μ-loop s i₀ i = ?
+μ-loop s i₀ i = length s - i
 
--- src/lib.rt:37:5
 loop-holds : tie.Need-loop-holds Inv-loop μ-loop
-loop-holds c = ?
+loop-holds c = (search needs, refl)
 
--- src/lib.rt:38:26
 shared-slice-read-inside : tie.Need-shared-slice-read-inside Inv-loop μ-loop
-shared-slice-read-inside c = ?
+shared-slice-read-inside c = search needs
 
--- src/lib.rt:38:13
 inside-requires : tie.Need-inside-requires Inv-loop μ-loop
-inside-requires c κs = ?
+inside-requires c κs = search needs
 
--- src/lib.rt:39:13
 returns : tie.Need-returns Inv-loop μ-loop
-returns c = ?
+returns c = search (needs, digits-stop)
 
--- src/lib.rt:41:9
 add-i : tie.Need-add-i Inv-loop μ-loop
-add-i c = ?
+add-i c = search needs
 
--- src/lib.rt:37:5
 loop-less : tie.Need-loop-less Inv-loop μ-loop
-loop-less c = ?
+loop-less c = search needs
 
--- src/lib.rt:37:5
 loop-again : tie.Need-loop-again Inv-loop μ-loop
-loop-again c = ?
+loop-again c = (search needs, search (needs, digits-on))
 
--- src/lib.rt:33:1
 returns-2 : tie.Need-returns-2 Inv-loop μ-loop
-returns-2 c = ?
+returns-2 c = search (needs, digits-end)
 
 pub all-digits-spec : {M : Type 1} → statement M
 all-digits-spec =
