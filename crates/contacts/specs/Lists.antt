@@ -3,7 +3,7 @@
 use mathlib.Core.Path.{_≡_}
 use mathlib.Core.Bool.{Bool, true}
 use mathlib.Core.List.{List, [], _∷_}
-use Prim.Native.Nat.{ℕ, zero, suc, _+_, _*_, _≤_}
+use Prim.Native.Nat.{ℕ, zero, suc, _+_, _*_, _≤_, _<_}
 use lib.ListN.{length, getD, take, drop}
 use lib.Dec.{eqb, leb, ltb}
 use Rattle.text.specs.Pick.{pick, both}
@@ -90,6 +90,11 @@ listedAs s =
     (pick (eqb (getD s 0 0) 1)
     (pick (ltb (length s) 5) (Refused MalformedList) (entriesFrom s (countOf s) (countOf s) 5 0))
     (Refused OtherVersion)))
+
+-- a count has 32 bits
+abbrev pub Few : Listed → Type 0
+Few (Marked n top) = n < 4294967296
+Few (Refused why) = Unit
 
 -- the contacts of k entries from `at` on; of a list
 unfoldable pub contactsFrom : List ℕ → ℕ → ℕ → List Contact

@@ -5,7 +5,7 @@ ghost use Prim.Native.Nat.{ℕ, _+_, _*_, _≤_, _<_};
 ghost use lib.ListN.{length, getD};
 ghost use Rattle.decimal.specs.Decimal.{allDigits};
 ghost use Rattle.contacts.specs.Contacts.{plain, isDate, isTime, soundHead, soundTexts};
-ghost use Rattle.contacts.specs.Lists.{numberAt, textAt, after, endAt, idAt, goodAt, entriesFrom, listedAs, freshAgainst};
+ghost use Rattle.contacts.specs.Lists.{numberAt, textAt, after, endAt, idAt, goodAt, entriesFrom, listedAs, freshAgainst, Few};
 use refusals::LONGEST;
 use refusals::Refusal;
 
@@ -190,8 +190,9 @@ fn is_good(s: &[u8], at: usize) -> bool
 }
 
 fn check_entries(s: &[u8], count: usize) -> Listed
-    requires { ⌜ (5 ≤ length (now s)) × (length (now s) ≤ 16777216) ⌝ }
+    requires { ⌜ (5 ≤ length (now s)) × (length (now s) ≤ 16777216) × (count < 4294967296) ⌝ }
     ensures { λ r. ⌜ r ≡ entriesFrom (now (s .entry)) count count 5 0 ⌝ }
+    ensures { λ r. ⌜ Few r ⌝ }
 {
     let mut at = ENTRIES;
     let mut last: u64 = 0;
@@ -220,6 +221,7 @@ fn check_entries(s: &[u8], count: usize) -> Listed
 // The list's mark, or why it is no list.
 pub fn check(list: &[u8]) -> Listed
     ensures { λ r. ⌜ r ≡ listedAs (now (list .entry)) ⌝ }
+    ensures { λ r. ⌜ Few r ⌝ }
 {
     if LONGEST < list.len() {
         return Listed::Refused(Refusal::TooLong);
