@@ -7,7 +7,7 @@ use native.Mathlib.Nat.{sub-zero}
 use native.Mathlib.Omega.{arith}
 use lib.ListN.{length, getD}
 use lib.Dec.{eqb, leb, ltb}
-use borrow.Author.Tests.{not-true, not-false, le-leb, lt-leb, leb-true, lt-ltb, le-ltb, eq-eqb, ne-eqb}
+use borrow.Author.Tests.{not-true, not-false, leb-true, ltb-true, ltb-false, lt-ltb, le-ltb, eqb-true, eq-eqb, ne-eqb}
 use Rattle.text.specs.Pick.{pick, both}
 use Rattle.text.proofs.BoolLaws.{cases, never, both-left, both-right}
 use Rattle.refusals.specs.declared.Refusal.{Refusal}
@@ -108,3 +108,56 @@ module _ (s : List ℕ) (count top : ℕ) (l : Listed) (el : l ≡ listedAs s) w
     pub fresh-both : count ≡ n → top ≡ m → the-variants.Fresh ≡ freshAgainst count top s
     unfolding freshAgainst freshBy
     fresh-both c d = rw (← el, e, eq-eqb count n c, eq-eqb top m d) refl
+
+-- ---- what an accepted list is known to have
+marked-refused : {P : Type 0} (n top : ℕ) (why : Refusal) → Refused why ≡ Marked n top → P
+marked-refused n top why e = absurd (let z : _≡_ {A = ℕ} 0 1 = cc in omega arith)
+
+module _ (s : List ℕ) (n m top : ℕ) where
+  -- the next of its entries is good, its id is higher, and the rest is accepted
+  pub record Next (k at last : ℕ) : Type 0 where
+    pub good : goodAt s at ≡ true
+    pub rises : ltb last (idAt s at) ≡ true
+    pub rest : entriesFrom s n k (endAt s at) (idAt s at) ≡ Marked m top
+
+  pub entries-next : (k at last : ℕ) → entriesFrom s n (suc k) at last ≡ Marked m top → Next k at last
+  unfolding entriesFrom
+  entries-next k at last e =
+      cases (goodAt s at)
+      (λ g. cases (ltb last (idAt s at))
+      (λ r. record { good = g; rises = r; rest = rw (g, r) at e })
+      (λ r. marked-refused m top IdsNotRising (rw (g, r) at e)))
+      (λ g. marked-refused m top MalformedList (rw g at e))
+
+  pub entries-last : (at last : ℕ) → entriesFrom s n 0 at last ≡ Marked m top → (eqb at (length s) ≡ true) × (n ≡ m) × (last ≡ top)
+  unfolding entriesFrom
+  entries-last at last e =
+      cases (eqb at (length s))
+      (λ t. let z : Marked n last ≡ Marked m top = rw t at e in (t, cc, cc))
+      (λ t. marked-refused m top MalformedList (rw t at e))
+
+  pub entries-count : (k at last : ℕ) → entriesFrom s n k at last ≡ Marked m top → n ≡ m
+  entries-count zero at last e = entries-last at last e .1
+  entries-count (suc k) at last e = entries-count k (endAt s at) (idAt s at) (entries-next k at last e .rest)
+
+pub record Accepted (s : List ℕ) (n top : ℕ) : Type 0 where
+  pub short : length s ≤ 16777216
+  pub whole : 5 ≤ length s
+  pub version : getD s 0 0 ≡ 1
+  pub count : n ≡ countOf s
+  pub entries : entriesFrom s n n 5 0 ≡ Marked n top
+
+pub accepted : (s : List ℕ) (n top : ℕ) → listedAs s ≡ Marked n top → Accepted s n top
+unfolding listedAs
+accepted s n top e =
+    cases (ltb 16777216 (length s))
+    (λ a. marked-refused n top TooLong (rw a at e))
+    (λ a. cases (eqb (length s) 0)
+    (λ b. marked-refused n top MalformedList (rw (a, b) at e))
+    (λ b. cases (eqb (getD s 0 0) 1)
+    (λ c. cases (ltb (length s) 5)
+    (λ d. marked-refused n top MalformedList (rw (a, b, c, d) at e))
+    (λ d. let q : entriesFrom s (countOf s) (countOf s) 5 0 ≡ Marked n top = rw (a, b, c, d) at e in
+    let z : n ≡ countOf s = sym (entries-count s (countOf s) n top (countOf s) 5 0 q) in
+    record { short = ltb-false 16777216 (length s) a; whole = ltb-false (length s) 5 d; version = eqb-true (getD s 0 0) 1 c; count = z; entries = rw (← z) at q }))
+    (λ c. marked-refused n top OtherVersion (rw (a, b, c) at e))))

@@ -163,12 +163,18 @@ fn row_at(list: &[u8], at: usize) -> [u32; 14]
     row_by(list, id, services, call, date, time, band, mode)
 }
 
+fn no_row() -> [u32; 14]
+    ensures { λ r. ⌜ r ≡ noRow ⌝ }
+{
+    [0u32; 14]
+}
+
 fn clear(rows: &mut [[u32; 14]])
     ensures { λ _. ⌜ now (rows .exit) ≡ replicate (length (now (rows .entry))) noRow ⌝ }
 {
     let mut i = 0;
     while i < rows.len() {
-        rows[i] = [0u32; 14];
+        rows[i] = no_row();
         i += 1;
     }
 }
