@@ -9,6 +9,11 @@ use Rattle.dedupe.proofs.same_natural_key.Reads as same-natural-key
 use Rattle.dedupe.proofs.same_natural_key.Kinds as same-natural-key-kinds
 use Rattle.dedupe.proofs.is_duplicate.Reads as is-duplicate
 use Rattle.dedupe.proofs.is_duplicate.Kinds as is-duplicate-kinds
+use Rattle.dedupe.proofs.moment.Reads as moment
+use Rattle.dedupe.proofs.moment.Kinds as moment-kinds
+
+moment-once : Once 1 moment-kinds.ps moment-kinds.r moment.Post
+moment-once κs a x y d e p q = p ∙ sym q
 
 in-log-once : Once 2 in-log-kinds.ps in-log-kinds.r in-log.Post
 in-log-once κs a x y d e p q = p ∙ sym q

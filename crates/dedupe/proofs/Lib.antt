@@ -1,3 +1,4 @@
 pub mod KeyLaws
 pub mod ViewLaws
+pub mod MomentLaws
 pub mod Determined

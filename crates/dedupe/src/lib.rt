@@ -8,6 +8,7 @@ ghost use Rattle.text.specs.Space.{trimmed};
 ghost use Rattle.letters.specs.Capitals.{raised};
 ghost use Rattle.letters.specs.Same.{same};
 ghost use Rattle.tables.specs.Place.{inText, part, bytes};
+ghost use Rattle.times.specs.Moments.{momentOf};
 ghost use Rattle.dedupe.specs.Views.{cased, view, viewed, keysInLog, keysInFile, keysNatural, keysDuplicate};
 use tables::Place;
 use tables::places;
@@ -150,6 +151,15 @@ pub fn same_natural_key(a: &[u8], k: Key, b: &[u8], o: Key) -> bool
         return false;
     }
     false
+}
+
+// The moment that a date and a time of day name.
+pub fn moment(text: &[u8], date: Place, time: Place) -> Moment
+    ensures { λ r. ⌜ r ≡ momentOf (bytes (now (text .entry)) date) (bytes (now (text .entry)) time) ⌝ }
+{
+    let d = places::part(text, date);
+    let t = places::part(text, time);
+    times::moment_of(d, t)
 }
 
 pub fn is_duplicate(
