@@ -69,7 +69,7 @@ pub fn expected(text: &[u8], table: &[u32], count: usize, room: usize) -> Result
     fitting(out, room)
 }
 
-fn fitting(out: String, room: usize) -> Result<Vec<u8>, u32> {
+pub fn fitting(out: String, room: usize) -> Result<Vec<u8>, u32> {
     match out.len() {
         n if n > LONGEST => Err(1),
         n if n > room => Err(13),
@@ -397,9 +397,11 @@ fn limits(g: &mut Group) {
     same(g, &rows, rows.count(), 100);
 }
 
+pub const JOURNAL: &str = "<ADIF_VER:5>3.1.6 <PROGRAMID:7>rigflow <EOH>\n";
+
 /// The journal's header, byte for byte, into outputs of every length around its own.
 fn journal(g: &mut Group) {
-    let header = "<ADIF_VER:5>3.1.6 <PROGRAMID:7>rigflow <EOH>\n";
+    let header = JOURNAL;
     #[cfg(original)]
     g.same(header, original::adif::adif_header(), header.to_string());
     for room in 0..=100 {
@@ -413,8 +415,28 @@ fn field(name: &str, value: &str) -> String {
     format!("<{name}:{}>{value} ", value.len())
 }
 
+pub fn export_header([version, program, created]: [&str; 3]) -> String {
+    let text = field("ADIF_VER", version) + &field("PROGRAMID", "rigflow");
+    text + &field("PROGRAMVERSION", program) + &field("CREATED_TIMESTAMP", created) + "<EOH>\n"
+}
+
+pub fn station_fields([call, grid, name, state, county, cq, itu]: [&str; 7]) -> String {
+    let fields = [
+        ("MY_CNTY", county),
+        ("MY_CQ_ZONE", cq),
+        ("MY_GRIDSQUARE", grid),
+        ("MY_ITU_ZONE", itu),
+        ("MY_NAME", name),
+        ("MY_STATE", state),
+        ("OPERATOR", call),
+        ("STATION_CALLSIGN", call),
+    ];
+    let given = fields.iter().filter(|(_, value)| !value.trim().is_empty());
+    given.map(|(name, value)| field(name, value.trim())).collect()
+}
+
 /// Any text, not always UTF-8.
-fn any(random: &mut Random) -> Vec<u8> {
+pub fn any(random: &mut Random) -> Vec<u8> {
     let mut text = value(random);
     if random.below(3) == 0 {
         let white = random.pick(&WHITE);
@@ -439,14 +461,15 @@ fn rooms(g: &mut Group, input: &[u8], theirs: Result<String, u32>, ours: impl Fn
 fn export(g: &mut Group) {
     for _ in 0..g.depth(1_000, 50_000) {
         let texts: [Vec<u8>; 3] = std::array::from_fn(|_| any(&mut g.random));
-        let theirs = strs(&texts).map(|[version, program, created]| {
-            let text = field("ADIF_VER", version) + &field("PROGRAMID", "rigflow");
-            let text = text + &field("PROGRAMVERSION", program) + &field("CREATED_TIMESTAMP", created) + "<EOH>\n";
+        let theirs = strs(texts.each_ref().map(Vec::as_slice)).map(|[version, program, created]| {
+            let text = export_header([version, program, created]);
             #[cfg(original)]
             g.same(&texts.concat()[..], original::adif::export_header(version, program, created), text.clone());
             text
         });
-        rooms(g, &texts.concat(), theirs, |out| sys::export_header([0, 1, 2].map(|i| &texts[i][..]), out));
+        rooms(g, &texts.concat(), theirs, |out| {
+            sys::export_header(texts.each_ref().map(Vec::as_slice), out)
+        });
     }
     // the whole header of one byte less than the limit, of the limit, and of one more; and a text that is longer still
     let around = field("ADIF_VER", "").len() + field("PROGRAMID", "rigflow").len() + field("PROGRAMVERSION", "").len();
@@ -459,7 +482,8 @@ fn export(g: &mut Group) {
     }
 }
 
-fn strs<const N: usize>(texts: &[Vec<u8>; N]) -> Result<[&str; N], u32> {
+/// The texts as `str`, or 11.
+pub fn strs<const N: usize>(texts: [&[u8]; N]) -> Result<[&str; N], u32> {
     let mut all = [""; N];
     for (slot, text) in all.iter_mut().zip(texts) {
         *slot = std::str::from_utf8(text).map_err(|_| 11u32)?;
@@ -470,19 +494,8 @@ fn strs<const N: usize>(texts: &[Vec<u8>; N]) -> Result<[&str; N], u32> {
 fn station(g: &mut Group) {
     for _ in 0..g.depth(1_000, 50_000) {
         let texts: [Vec<u8>; 7] = std::array::from_fn(|_| any(&mut g.random));
-        let theirs = strs(&texts).map(|[call, grid, name, state, county, cq, itu]| {
-            let fields = [
-                ("MY_CNTY", county),
-                ("MY_CQ_ZONE", cq),
-                ("MY_GRIDSQUARE", grid),
-                ("MY_ITU_ZONE", itu),
-                ("MY_NAME", name),
-                ("MY_STATE", state),
-                ("OPERATOR", call),
-                ("STATION_CALLSIGN", call),
-            ];
-            let given = fields.iter().filter(|(_, value)| !value.trim().is_empty());
-            let text: String = given.map(|(name, value)| field(name, value.trim())).collect();
+        let theirs = strs(texts.each_ref().map(Vec::as_slice)).map(|[call, grid, name, state, county, cq, itu]| {
+            let text = station_fields([call, grid, name, state, county, cq, itu]);
             #[cfg(original)]
             {
                 let theirs = original::model::Station {
@@ -500,7 +513,9 @@ fn station(g: &mut Group) {
             }
             text
         });
-        rooms(g, &texts.concat(), theirs, |out| sys::station_fields([0, 1, 2, 3, 4, 5, 6].map(|i| &texts[i][..]), out));
+        rooms(g, &texts.concat(), theirs, |out| {
+            sys::station_fields(texts.each_ref().map(Vec::as_slice), out)
+        });
     }
     let mut out = [0; 60];
     let station = writing::Station { call: " W1AW", cq_zone: "5", ..writing::Station::default() };

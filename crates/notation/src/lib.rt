@@ -153,3 +153,39 @@ pub fn put_none(out: &mut [u8]) -> usize
     }
     output::put_bytes(out, 0, b"none")
 }
+
+// Whether b stands for itself in a text in bars.
+fn is_plain(b: u8) -> bool {
+    text::all(text::inside(b, b'!', b'~'), text::all(b != b'|', b != b'%'))
+}
+
+fn hex_digit(n: u8) -> u8
+    requires { ⌜ n ≤ 15 ⌝ }
+{
+    if n < 10 { b'0' + n } else { b'7' + n }
+}
+
+// b as it stands in a text in bars, where there is room.
+fn put_coded(out: &mut [u8], at: usize, b: u8) -> usize
+    ensures { λ r. ⌜ r ≤ length (now (out .exit)) ⌝ }
+{
+    if is_plain(b) {
+        return put_byte(out, at, b);
+    }
+    let sign = put_byte(out, at, b'%');
+    let high = put_byte(out, sign, hex_digit(b / 16));
+    put_byte(out, high, hex_digit(b % 16))
+}
+
+// s in bars, where there is room.
+pub fn put_bars(out: &mut [u8], at: usize, s: &[u8]) -> usize
+    ensures { λ r. ⌜ r ≤ length (now (out .exit)) ⌝ }
+{
+    let mut to = put_byte(out, at, b'|');
+    let mut i = 0;
+    while i < s.len() {
+        to = put_coded(out, to, s[i]);
+        i += 1;
+    }
+    put_byte(out, to, b'|')
+}

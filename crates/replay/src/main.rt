@@ -8,6 +8,17 @@ struct Tally {
     agree: usize,
 }
 
+// What it answers on records, read and written.
+fn records(op: &[u8], line: &[u8], a: &mut [u8], out: &mut [u8]) -> usize
+    ensures { λ r. ⌜ r ≤ length (now (out .exit)) ⌝ }
+{
+    let n = answers_reader::answer(op, line, a, out);
+    if 0 < n {
+        return n;
+    }
+    answers_writer::answer(op, line, a, out)
+}
+
 // What the library answers, put at the front of out; nothing where the operation is unknown.
 fn answered(line: &[u8], a: &mut [u8], b: &mut [u8], out: &mut [u8]) -> usize
     ensures { λ r. ⌜ r ≤ length (now (out .exit)) ⌝ }
@@ -25,7 +36,7 @@ fn answered(line: &[u8], a: &mut [u8], b: &mut [u8], out: &mut [u8]) -> usize
     if 0 < k {
         return k;
     }
-    answers_reader::answer(op, line, a, out)
+    records(op, line, a, out)
 }
 
 // 1 where the library answers as the line says, else 0; a, b and out are room to work in.

@@ -86,7 +86,7 @@ module _ (xs : List ℕ) (w : writable xs ≡ true) where
   pub name-kind : kindOf xs ≡ FieldName
   name-kind = field-kind (kindOf xs) (both-second free (isField (kindOf xs)) others)
 
-utf8-is : (xs : List ℕ) → utf8 xs ≡ true → Utf8 xs
+pub utf8-is : (xs : List ℕ) → utf8 xs ≡ true → Utf8 xs
 unfolding utf8
 utf8-is xs e = eqb-true (validUpTo xs) (length xs) e
 

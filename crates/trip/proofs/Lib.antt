@@ -7,4 +7,6 @@ pub mod Grouped
 pub mod Accepted
 pub mod Trip
 pub mod Promised
+pub mod Trimmed
 pub mod Fronts
+pub mod Station

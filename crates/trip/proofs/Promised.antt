@@ -2,11 +2,11 @@
 use mathlib.Core.Path.{_≡_, refl, sym, ap, _∙_}
 use mathlib.Core.Bool.{Bool, true, false}
 use mathlib.Core.List.{List, [], _∷_, _++_}
-use Prim.Native.Nat.{ℕ, zero, suc, _+_, _/_, _≤_, _<_}
+use Prim.Native.Nat.{ℕ, zero, suc, _+_, _/_, _^_, _≤_, _<_}
 use native.Mathlib.Nat.{zero-add}
 use native.Mathlib.Omega.{arith}
 use lib.ListN.{length, take, drop}
-use lib.Seq.{sets, sets-eq, take-at, drop-at}
+use lib.Seq.{sets, sets-eq, length-sets, take-at, drop-at}
 use lib.Dec.{leb}
 use borrow.Author.Tests.{leb-true}
 use Rattle.text.specs.Pick.{pick}
@@ -77,9 +77,15 @@ module _ (text table : List ℕ) (count : ℕ) (was : List ℕ) (answer : Writte
   pub untouched : drop n out ≡ drop n was
   untouched = rw (set-is, size-is) (drop-set was (rowsText text (rowsOf table count)) in-room)
 
+  pub text-small : length text < 2 ^ 64
+  text-small = omega (arith, leb-true (length text) 16777216 (first .0))
+
+  pub bytes-few : (n ≤ 16777216) × (n ≤ length out)
+  bytes-few = (second .1, omega (arith, ap length set-is, length-sets was 0 (rowsText text (rowsOf table count)), second .2))
+
   -- what the writer wrote, behind a front, is read as the rows' records
   pub trip-promised : (front : Front) → Fit front → (s : List ℕ) → s ≡ frontText front ++ take n out → length s ≤ 16777216 → (room : ℕ) → total (recordsOf text (rowsOf table count)) ≤ room
       → (reading : RowsRead) → reading ≡ readText s room → told s reading ≡ records (recordsOf text (rowsOf table count))
   trip-promised front b s e l room h reading p =
       ap (told s) p
-      ∙ trip text (omega (arith, leb-true (length text) 16777216 (first .0))) (rowsOf table count) taken front b s (e ∙ ap (λ (t : List ℕ). frontText front ++ t) written) room h l
+      ∙ trip text text-small (rowsOf table count) taken front b s (e ∙ ap (λ (t : List ℕ). frontText front ++ t) written) room h l

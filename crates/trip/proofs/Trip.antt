@@ -37,17 +37,17 @@ abbrev pub Fits : List (List Field) → Type 0
 Fits [] = Unit {0}
 Fits (r ∷ rs) = Writable r × Ascending named r × Fits rs
 
-no-comment : Comment []
+pub no-comment : Comment []
 unfolding validUpTo lead
 no-comment = record { no-lt = tt; good = refl }
 
-between-length : (gs : List (List ℕ)) (rs : List (List Field)) → length (between gs rs) ≡ length rs
+pub between-length : (gs : List (List ℕ)) (rs : List (List Field)) → length (between gs rs) ≡ length rs
 between-length [] [] = refl
 between-length [] (r ∷ rs) = ap suc (between-length [] rs)
 between-length (g ∷ gs) [] = refl
 between-length (g ∷ gs) (r ∷ rs) = ap suc (between-length gs rs)
 
-between-writable : (gs : List (List ℕ)) → Comments gs → (rs : List (List Field)) → Fits rs → AllWritable (between gs rs)
+pub between-writable : (gs : List (List ℕ)) → Comments gs → (rs : List (List Field)) → Fits rs → AllWritable (between gs rs)
 between-writable [] c [] w = tt
 between-writable [] c (r ∷ rs) w = (no-comment, w .0, between-writable [] tt rs (w .2))
 between-writable (g ∷ gs) c [] w = tt
@@ -56,13 +56,13 @@ between-writable (g ∷ gs) c (r ∷ rs) w = (c .0, w .0, between-writable gs (c
 joined-by : (r : List Field) (rs rs′ : List (List Field)) → gathered [] r ≡ r → rs′ ≡ rs → gathered [] r ∷ rs′ ≡ r ∷ rs
 joined-by r rs rs′ p q = rw (p, q) refl
 
-between-read : (gs : List (List ℕ)) (rs : List (List Field)) → Fits rs → readAs (between gs rs) ≡ rs
+pub between-read : (gs : List (List ℕ)) (rs : List (List Field)) → Fits rs → readAs (between gs rs) ≡ rs
 between-read [] [] w = refl
 between-read [] (r ∷ rs) w = joined-by r rs (readAs (between [] rs)) (gathered-is r (w .1)) (between-read [] rs (w .2))
 between-read (g ∷ gs) [] w = refl
 between-read (g ∷ gs) (r ∷ rs) w = joined-by r rs (readAs (between gs rs)) (gathered-is r (w .1)) (between-read gs rs (w .2))
 
-closely-is : (rs : List (List Field)) → closely rs ≡ between [] rs
+pub closely-is : (rs : List (List Field)) → closely rs ≡ between [] rs
 closely-is [] = refl
 closely-is (r ∷ rs) = ap (λ (l : Records). ([], r) ∷ l) (closely-is rs)
 

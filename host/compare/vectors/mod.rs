@@ -5,6 +5,7 @@ mod frequency;
 mod normalize;
 mod reading;
 mod text;
+mod writing;
 
 use crate::generate::Random;
 use crate::harness::{Group, Input, Run};
@@ -14,7 +15,7 @@ use std::collections::HashSet;
 use std::path::Path;
 use std::process::ExitCode;
 
-const AREAS: [Area; 4] = [text::AREA, frequency::AREA, normalize::AREA, reading::AREA];
+const AREAS: [Area; 5] = [text::AREA, frequency::AREA, normalize::AREA, reading::AREA, writing::AREA];
 
 struct Area {
     /// The file's name without `.txt`.
