@@ -34,7 +34,7 @@ fn original((text, _): Text) -> usize {
 }
 
 /// A log as a logging program writes it, of some 2.5 MB for 10,000 records.
-fn log(records: usize) -> Vec<u8> {
+pub fn log(records: usize) -> Vec<u8> {
     let header = "Written by a logger\n<ADIF_VER:5>3.1.6 <PROGRAMID:6>logger <EOH>\n".to_string();
     (0..records).fold(header, |text, i| text + &record(i) + "<EOR>\n").into_bytes()
 }
