@@ -78,11 +78,11 @@ fitted : (text : List ℕ) (p : Place) → isFit text p ≡ true → Fitted p
 fitted text p e = fitted-place text (p .kind) (p .start) (p .len) e
 
 -- ---- the case of letters does not tell bands apart
-first-alike : (f g : List ℕ → Bool) → ((n : List ℕ) → f n ≡ g n) → (j : ℕ) (ns : List (List ℕ)) → firstFrom f j ns ≡ firstFrom g j ns
+pub first-alike : (f g : List ℕ → Bool) → ((n : List ℕ) → f n ≡ g n) → (j : ℕ) (ns : List (List ℕ)) → firstFrom f j ns ≡ firstFrom g j ns
 first-alike f g e j [] = refl
 first-alike f g e j (n ∷ ns) = rw (e n, first-alike f g e (suc j) ns) refl
 
-raised-alike : (x n : List ℕ) → sameRaised (capitals x) n ≡ sameRaised x n
+pub raised-alike : (x n : List ℕ) → sameRaised (capitals x) n ≡ sameRaised x n
 unfolding sameRaised
 raised-alike x n = rw (capitals-twice x) refl
 
