@@ -4,6 +4,8 @@
 
 mod measure;
 #[cfg(original)]
+mod model;
+#[cfg(original)]
 mod reading;
 mod rows;
 #[cfg(original)]

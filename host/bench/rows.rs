@@ -45,6 +45,8 @@ pub fn all() -> Vec<Row> {
     rows.extend(crate::reading::rows());
     #[cfg(original)]
     rows.extend(crate::writing::rows());
+    #[cfg(original)]
+    rows.extend(crate::model::rows());
     rows
 }
 

@@ -7,6 +7,8 @@ mod frequency;
 mod generate;
 mod harness;
 #[cfg(original)]
+mod model;
+#[cfg(original)]
 mod normalize;
 mod notation;
 #[cfg(original)]
@@ -46,6 +48,8 @@ fn compare(mut run: Run, folder: &Path) -> ExitCode {
     vectors::run(&mut run, folder);
     #[cfg(original)]
     normalize::run(&mut run);
+    #[cfg(original)]
+    model::run(&mut run);
     #[cfg(original)]
     original::run(&mut run);
     #[cfg(not(original))]

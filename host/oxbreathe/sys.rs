@@ -145,6 +145,41 @@ pub struct ReadAnswer {
     pub rows: usize,
 }
 
+/// A frequency in hertz, if one is given.
+#[repr(C)]
+#[derive(Clone, Copy, Debug, Default, PartialEq, Eq)]
+pub struct Hertz {
+    pub given: bool,
+    pub hz: u64,
+}
+
+/// The number of the DXCC entity by sign and size, if one is given.
+#[repr(C)]
+#[derive(Clone, Copy, Debug, Default, PartialEq, Eq)]
+pub struct Dxcc {
+    pub given: bool,
+    pub negative: bool,
+    pub size: u64,
+}
+
+/// A contact over a text: its columns, in the order of [`COLUMNS`](crate::contact::COLUMNS), and its numbers.
+#[repr(C)]
+#[derive(Clone, Copy, Debug, Default, PartialEq, Eq)]
+pub struct Qso {
+    pub columns: [Place; 13],
+    pub freq: Hertz,
+    pub freq_rx: Hertz,
+    pub dxcc: Dxcc,
+}
+
+/// A contact, and why the call refused, or 0.
+#[repr(C)]
+#[derive(Clone, Copy, Debug, Default, PartialEq, Eq)]
+pub struct QsoAnswer {
+    pub refusal: u32,
+    pub qso: Qso,
+}
+
 mod c {
     use super::*;
 
@@ -217,6 +252,16 @@ mod c {
             out: *mut u8,
             room: usize,
         ) -> Written;
+        pub fn ox_column(name: *const u8, length: usize) -> u32;
+        pub fn ox_record_to_qso(
+            text: *const u8,
+            length: usize,
+            table: *const u32,
+            numbers: usize,
+            first: usize,
+            count: usize,
+        ) -> QsoAnswer;
+        pub fn ox_normalize_qso(text: *const u8, length: usize, qso: Qso) -> QsoAnswer;
     }
 }
 
@@ -335,4 +380,13 @@ pub fn station_fields([call, grid, name, state, county, cq, itu]: [&[u8]; 7], ou
             out.len(),
         )
     }
+}
+pub fn column(name: &[u8]) -> u32 {
+    unsafe { c::ox_column(name.as_ptr(), name.len()) }
+}
+pub fn record_to_qso(text: &[u8], table: &[u32], first: usize, count: usize) -> QsoAnswer {
+    unsafe { c::ox_record_to_qso(text.as_ptr(), text.len(), table.as_ptr(), table.len(), first, count) }
+}
+pub fn normalize_qso(text: &[u8], qso: Qso) -> QsoAnswer {
+    unsafe { c::ox_normalize_qso(text.as_ptr(), text.len(), qso) }
 }
