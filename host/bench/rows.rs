@@ -47,6 +47,8 @@ pub fn all() -> Vec<Row> {
     rows.extend(crate::writing::rows());
     #[cfg(original)]
     rows.extend(crate::model::rows());
+    #[cfg(original)]
+    rows.extend(crate::dedupe::rows());
     rows
 }
 

@@ -3,6 +3,8 @@
 //!   compare record DIR            records those answers
 //! SEED changes the random part; ONLY runs the groups whose name starts with it.
 
+#[cfg(original)]
+mod dedupe;
 mod frequency;
 mod generate;
 mod harness;
@@ -50,6 +52,8 @@ fn compare(mut run: Run, folder: &Path) -> ExitCode {
     normalize::run(&mut run);
     #[cfg(original)]
     model::run(&mut run);
+    #[cfg(original)]
+    dedupe::run(&mut run);
     #[cfg(original)]
     original::run(&mut run);
     #[cfg(not(original))]

@@ -72,6 +72,14 @@ impl<'a> Contact<'a> {
         Contact { qso: sys::normalize_qso(self.text.as_bytes(), self.qso).qso, ..self }
     }
 
+    pub(crate) fn text(&self) -> &'a [u8] {
+        self.text.as_bytes()
+    }
+
+    pub(crate) fn qso(&self) -> sys::Qso {
+        self.qso
+    }
+
     pub fn column(&self, column: Column) -> Option<Cow<'a, str>> {
         spelled(self.text, self.qso.columns[column as usize])
     }

@@ -131,6 +131,16 @@ pub struct Frequency {
     pub hz: u64,
 }
 
+/// With a moment, its seconds since the first day of year 0.
+#[derive(Clone, Copy, Debug, PartialEq, Eq)]
+#[repr(C)]
+pub struct Timed {
+    pub refusal: u32,
+    pub place: usize,
+    pub present: bool,
+    pub seconds: u64,
+}
+
 /// How a text was read: refused, with what comes with the refusal, or the records and the rows they take.
 #[repr(C)]
 #[derive(Clone, Copy, Debug, Default, PartialEq, Eq)]
@@ -252,6 +262,35 @@ mod c {
             out: *mut u8,
             room: usize,
         ) -> Written;
+        pub fn ox_parse_dt(date: *const u8, date_length: usize, time: *const u8, time_length: usize) -> Timed;
+        pub fn ox_in_log(a: *const u8, a_length: usize, q: Qso, b: *const u8, b_length: usize, o: Qso) -> Told;
+        pub fn ox_in_file(a: *const u8, a_length: usize, q: Qso, b: *const u8, b_length: usize, o: Qso) -> Told;
+        pub fn ox_same_natural_key(
+            a: *const u8,
+            a_length: usize,
+            q: Qso,
+            b: *const u8,
+            b_length: usize,
+            o: Qso,
+        ) -> Told;
+        pub fn ox_within_window(
+            a: *const u8,
+            a_length: usize,
+            q: Qso,
+            b: *const u8,
+            b_length: usize,
+            o: Qso,
+            window: i64,
+        ) -> Told;
+        pub fn ox_is_duplicate(
+            a: *const u8,
+            a_length: usize,
+            q: Qso,
+            b: *const u8,
+            b_length: usize,
+            o: Qso,
+            window: i64,
+        ) -> Told;
         pub fn ox_column(name: *const u8, length: usize) -> u32;
         pub fn ox_record_to_qso(
             text: *const u8,
@@ -380,6 +419,24 @@ pub fn station_fields([call, grid, name, state, county, cq, itu]: [&[u8]; 7], ou
             out.len(),
         )
     }
+}
+pub fn parse_dt(date: &[u8], time: &[u8]) -> Timed {
+    unsafe { c::ox_parse_dt(date.as_ptr(), date.len(), time.as_ptr(), time.len()) }
+}
+pub fn in_log(a: &[u8], q: Qso, b: &[u8], o: Qso) -> Told {
+    unsafe { c::ox_in_log(a.as_ptr(), a.len(), q, b.as_ptr(), b.len(), o) }
+}
+pub fn in_file(a: &[u8], q: Qso, b: &[u8], o: Qso) -> Told {
+    unsafe { c::ox_in_file(a.as_ptr(), a.len(), q, b.as_ptr(), b.len(), o) }
+}
+pub fn same_natural_key(a: &[u8], q: Qso, b: &[u8], o: Qso) -> Told {
+    unsafe { c::ox_same_natural_key(a.as_ptr(), a.len(), q, b.as_ptr(), b.len(), o) }
+}
+pub fn within_window(a: &[u8], q: Qso, b: &[u8], o: Qso, window: i64) -> Told {
+    unsafe { c::ox_within_window(a.as_ptr(), a.len(), q, b.as_ptr(), b.len(), o, window) }
+}
+pub fn is_duplicate(a: &[u8], q: Qso, b: &[u8], o: Qso, window: i64) -> Told {
+    unsafe { c::ox_is_duplicate(a.as_ptr(), a.len(), q, b.as_ptr(), b.len(), o, window) }
 }
 pub fn column(name: &[u8]) -> u32 {
     unsafe { c::ox_column(name.as_ptr(), name.len()) }
