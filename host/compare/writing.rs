@@ -259,7 +259,9 @@ fn told(g: &mut Group, rows: &Rows, count: usize, room: usize) -> Result<Vec<u8>
 
 /// The rows on an output that is long enough, beside the original; and what is written is read back.
 fn written(g: &mut Group, rows: &Rows) {
-    let Ok(text) = told(g, rows, rows.count(), 5_000 + 3 * rows.text.len()) else { return };
+    // of each row the name and the value, at most 12 bytes around them, and 6 behind
+    let room = rows.table.chunks_exact(5).map(|row| (row[2] + row[4]) as usize + 18).sum::<usize>() + 40;
+    let Ok(text) = told(g, rows, rows.count(), room) else { return };
     read_back(g, rows, &text);
     #[cfg(original)]
     beside::same(g, rows, &text);
