@@ -29,9 +29,7 @@ fn library(log: &'static Log) -> u64 {
     let (mut first, mut sum) = (0, 0);
     while let Some(&record) = table.get(first * ROW) {
         let count = table[first * ROW..].chunks_exact(ROW).take_while(|row| row[0] == record).count();
-        let mapped = sys::record_to_qso(text, table, first, count);
-        let normal = sys::normalize_qso(text, mapped.qso);
-        sum += normal.qso.freq.hz;
+        sum += sys::record_to_normal_qso(text, table, first, count).qso.freq.hz;
         first += count;
     }
     sum

@@ -196,6 +196,8 @@ fn record_same(g: &mut Group, record: &AdifRecord) {
     normal.normalize();
     let n = sys::normalize_qso(&text, r.qso);
     g.same(shown.as_str(), (n.refusal, told(&text, rows, &n.qso)), (0, normal));
+    let both = sys::record_to_normal_qso(&text, &table, first, count);
+    g.same(shown.as_str(), both, QsoAnswer { refusal: r.refusal, ..n });
     g.same(shown.as_str(), told(&text, rows, &sys::normalize_qso(&text, n.qso).qso), told(&text, rows, &n.qso));
 }
 
@@ -293,6 +295,7 @@ fn rows(g: &mut Group) {
         }
         let r = sys::record_to_qso(&text, &table, first, count);
         let good = is_record(&text, &table, first, count);
+        g.same((&text[..], first as u64, count as u64), sys::record_to_normal_qso(&text, &table, first, count).refusal, r.refusal);
         let refused = r == QsoAnswer { refusal: 11, ..QsoAnswer::default() };
         g.same((&text[..], first as u64, count as u64), (r.refusal == 11, refused), (!good, !good));
     }

@@ -300,6 +300,14 @@ mod c {
             first: usize,
             count: usize,
         ) -> QsoAnswer;
+        pub fn ox_record_to_normal_qso(
+            text: *const u8,
+            length: usize,
+            table: *const u32,
+            numbers: usize,
+            first: usize,
+            count: usize,
+        ) -> QsoAnswer;
         pub fn ox_normalize_qso(text: *const u8, length: usize, qso: Qso) -> QsoAnswer;
     }
 }
@@ -443,6 +451,9 @@ pub fn column(name: &[u8]) -> u32 {
 }
 pub fn record_to_qso(text: &[u8], table: &[u32], first: usize, count: usize) -> QsoAnswer {
     unsafe { c::ox_record_to_qso(text.as_ptr(), text.len(), table.as_ptr(), table.len(), first, count) }
+}
+pub fn record_to_normal_qso(text: &[u8], table: &[u32], first: usize, count: usize) -> QsoAnswer {
+    unsafe { c::ox_record_to_normal_qso(text.as_ptr(), text.len(), table.as_ptr(), table.len(), first, count) }
 }
 pub fn normalize_qso(text: &[u8], qso: Qso) -> QsoAnswer {
     unsafe { c::ox_normalize_qso(text.as_ptr(), text.len(), qso) }

@@ -3,8 +3,9 @@ use mathlib.Core.Path.{_≡_, refl, sym, ap, _∙_}
 use mathlib.Core.Bool.{Bool, true, false, not}
 use mathlib.Core.List.{List, [], _∷_, map}
 use Prim.Native.Nat.{ℕ, zero, suc, _+_, _-_, _≤_, _<_}
+use native.Mathlib.Nat.{not-suc-le-zero, le-of-suc-le-suc}
 use native.Mathlib.Omega.{arith}
-use lib.ListN.{length, set}
+use lib.ListN.{length, getD, set}
 use Rattle.text.specs.Pick.{pick, both}
 use Rattle.letters.specs.Capitals.{raised, capitals}
 use Rattle.letters.specs.Same.{same, sameRaised}
@@ -12,7 +13,7 @@ use Rattle.letters.proofs.SameLaws.{same-refl, same-raised-true}
 use Rattle.tables.specs.Table.{firstFrom, named}
 use Rattle.tables.specs.declared.Found.{Found}
 use Rattle.tables.specs.declared.Found.the-variants.{At, Nothing}
-use Rattle.tables.proofs.Tested.{both-left, both-right, all, pairs}
+use Rattle.tables.proofs.Tested.{both-left, both-right, all, pairs, all-at}
 use Rattle.columns.specs.Columns.{columnNames, columnNamed}
 
 abbrev pub differ : List ℕ → List ℕ → Bool
@@ -35,6 +36,33 @@ alone x n m d e = by (sameRaised x m) refl
     by true q =
         let r : sameRaised n m ≡ true = both-are x n m e q in
         absurd (let z : _≡_ {A = ℕ} 0 1 = cc in omega arith)
+
+-- so the column that has the name is the one that is found
+first-is : (x : List ℕ) (j k : ℕ) (ns : List (List ℕ)) → pairs differ ns ≡ true → k < length ns → sameRaised x (getD ns k []) ≡ true
+    → firstFrom (sameRaised x) j ns ≡ At (j + k)
+first-is x j k [] d h e = absurd (not-suc-le-zero h)
+first-is x j zero (n ∷ ns) d h e =
+    let z : j + 0 ≡ j = omega arith in
+    rw (e, z) refl
+first-is x j (suc k) (n ∷ ns) d h e =
+    by (sameRaised x n) refl (first-is x (suc j) k ns (both-right (all (differ n) ns) (pairs differ ns) d) (le-of-suc-le-suc h) e)
+  where
+    apart : differ n (getD ns k []) ≡ true
+    apart = all-at [] (differ n) ns (both-left (all (differ n) ns) (pairs differ ns) d) k (le-of-suc-le-suc h)
+
+    by : (b : Bool) → sameRaised x n ≡ b → firstFrom (sameRaised x) (suc j) ns ≡ At (suc j + k) → pick b (At j) (firstFrom (sameRaised x) (suc j) ns) ≡ At (j + suc k)
+    by true q r =
+        let z : sameRaised x (getD ns k []) ≡ false = alone x n (getD ns k []) apart q in
+        absurd (let z : _≡_ {A = ℕ} 0 1 = cc in omega arith)
+    by false q r =
+        let z : j + suc k ≡ suc j + k = omega arith in
+        rw z r
+
+pub is-column : (x : List ℕ) (k : ℕ) → k < length columnNames → sameRaised x (getD columnNames k []) ≡ true → columnNamed x ≡ At k
+unfolding columnNamed named
+is-column x k h e =
+    let z : 0 + k ≡ k = omega arith in
+    rw z at (first-is x 0 k columnNames columns-differ h e)
 
 -- the entry that is found is counted from j on
 pub found-within : {A : Type 0} (test : A → Bool) (j k : ℕ) (ns : List A) → firstFrom test j ns ≡ At k → (j ≤ k) × (k < j + length ns)

@@ -1,3 +1,3 @@
-pub mod ColumnLaws
 pub mod LaidLaws
+pub mod ColumnLaws
 pub mod Determined

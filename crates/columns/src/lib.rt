@@ -1,9 +1,8 @@
 // The names of the thirteen columns of a contact. Every other field of a record is extra.
 ghost use mathlib.Core.Path.{_≡_};
-ghost use lib.ListN.{drop};
-ghost use Rattle.letters.specs.Same.{sameRaised};
-ghost use Rattle.tables.specs.Table.{firstFrom, isFound};
-ghost use Rattle.columns.specs.Columns.{columnNames, columnNamed};
+ghost use lib.ListN.{length};
+ghost use Rattle.tables.specs.Table.{isFound};
+ghost use Rattle.columns.specs.Columns.{columnNamed};
 use letters::same_raised;
 use tables::Found;
 
@@ -34,15 +33,54 @@ pub const GRIDSQUARE: usize = 11;
 
 pub const DXCC: usize = 12;
 
-// The columns from FREQ_RX on.
-fn later_column(name: &[u8]) -> Found
-    ensures { λ r. ⌜ r ≡ firstFrom (sameRaised (now (name .entry))) 7 (drop 7 columnNames) ⌝ }
+// The columns whose names have four letters, seven, eight and ten: a name is compared with few others.
+fn of_four(name: &[u8]) -> Found
+    requires { ⌜ length (now name) ≡ 4 ⌝ }
+    ensures { λ r. ⌜ r ≡ columnNamed (now (name .entry)) ⌝ }
 {
+    if same_raised(name, b"CALL") {
+        return Found::At(0);
+    }
+    if same_raised(name, b"BAND") {
+        return Found::At(3);
+    }
+    if same_raised(name, b"MODE") {
+        return Found::At(4);
+    }
+    if same_raised(name, b"FREQ") {
+        return Found::At(6);
+    }
+    if same_raised(name, b"DXCC") {
+        return Found::At(12);
+    }
+    Found::Nothing
+}
+
+fn of_seven(name: &[u8]) -> Found
+    requires { ⌜ length (now name) ≡ 7 ⌝ }
+    ensures { λ r. ⌜ r ≡ columnNamed (now (name .entry)) ⌝ }
+{
+    if same_raised(name, b"TIME_ON") {
+        return Found::At(2);
+    }
+    if same_raised(name, b"SUBMODE") {
+        return Found::At(5);
+    }
     if same_raised(name, b"FREQ_RX") {
         return Found::At(7);
     }
     if same_raised(name, b"BAND_RX") {
         return Found::At(8);
+    }
+    Found::Nothing
+}
+
+fn of_eight(name: &[u8]) -> Found
+    requires { ⌜ length (now name) ≡ 8 ⌝ }
+    ensures { λ r. ⌜ r ≡ columnNamed (now (name .entry)) ⌝ }
+{
+    if same_raised(name, b"QSO_DATE") {
+        return Found::At(1);
     }
     if same_raised(name, b"RST_SENT") {
         return Found::At(9);
@@ -50,11 +88,15 @@ fn later_column(name: &[u8]) -> Found
     if same_raised(name, b"RST_RCVD") {
         return Found::At(10);
     }
+    Found::Nothing
+}
+
+fn of_ten(name: &[u8]) -> Found
+    requires { ⌜ length (now name) ≡ 10 ⌝ }
+    ensures { λ r. ⌜ r ≡ columnNamed (now (name .entry)) ⌝ }
+{
     if same_raised(name, b"GRIDSQUARE") {
         return Found::At(11);
-    }
-    if same_raised(name, b"DXCC") {
-        return Found::At(12);
     }
     Found::Nothing
 }
@@ -63,28 +105,19 @@ fn later_column(name: &[u8]) -> Found
 pub fn column_of(name: &[u8]) -> Found
     ensures { λ r. ⌜ r ≡ columnNamed (now (name .entry)) ⌝ }
 {
-    if same_raised(name, b"CALL") {
-        return Found::At(0);
+    if name.len() == 4 {
+        return of_four(name);
     }
-    if same_raised(name, b"QSO_DATE") {
-        return Found::At(1);
+    if name.len() == 7 {
+        return of_seven(name);
     }
-    if same_raised(name, b"TIME_ON") {
-        return Found::At(2);
+    if name.len() == 8 {
+        return of_eight(name);
     }
-    if same_raised(name, b"BAND") {
-        return Found::At(3);
+    if name.len() == 10 {
+        return of_ten(name);
     }
-    if same_raised(name, b"MODE") {
-        return Found::At(4);
-    }
-    if same_raised(name, b"SUBMODE") {
-        return Found::At(5);
-    }
-    if same_raised(name, b"FREQ") {
-        return Found::At(6);
-    }
-    later_column(name)
+    Found::Nothing
 }
 
 // A field whose name is no column's is extra.

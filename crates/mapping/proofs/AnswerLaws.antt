@@ -21,12 +21,13 @@ use Rattle.writer.specs.Rows.{rowsFrom}
 use Rattle.tables.specs.Place.{absent, part}
 use Rattle.tables.specs.declared.Place.{Place}
 use Rattle.columns.specs.Columns.{freq, freqRx, dxcc}
+use Rattle.model.specs.Normal.{normalQso}
 use Rattle.model.specs.Answer.{noFrequency, noDxcc, emptyQso, accepted, refused}
 use Rattle.model.specs.declared.Frequency.{Frequency}
 use Rattle.model.specs.declared.Dxcc.{Dxcc}
 use Rattle.model.specs.declared.Qso.{Qso}
 use Rattle.model.specs.declared.Answer.{Answer}
-use Rattle.mapping.specs.Mapping.{columnsOf, isOutside, frequencyOf, dxccOf, dxccAt, qsoWith, answerWith, answerOver, mapped, isRecord, mappedTo}
+use Rattle.mapping.specs.Mapping.{columnsOf, isOutside, frequencyOf, dxccOf, dxccAt, qsoWith, answerWith, answerOver, mapped, isRecord, mappedTo, withNormal, normalTo}
 
 pub number-is : (s : Signed) (n : Bool) (size : ℕ) → s ≡ Of n size → _≡_ {A = Dxcc} (record { given = true; negative = n; size = size }) (dxccOf s)
 number-is s n size e = rw e refl
@@ -98,3 +99,16 @@ module _ (text table : List ℕ) (first count : ℕ) where
       by : (b : Bool) → not b ≡ false → r ≡ pick b (mapped text (rowsFrom table first count)) (refused BadRow emptyQso)
       by true z = er
       by false z = absurd (let z : _≡_ {A = ℕ} 0 1 = cc in omega arith)
+
+-- ---- normalised at once
+pub normal-answer : (text : List ℕ) (a : Answer) (q : Qso) → q ≡ normalQso text (a .qso) → _≡_ {A = Answer} (record { qso = q; verdict = a .verdict }) (withNormal text a)
+normal-answer text a q e = rw e refl
+
+module _ (text table : List ℕ) (first count : ℕ) (a : Answer) (ea : a ≡ mappedTo text table first count) where
+  pub normal-long : 16777216 < length text → a ≡ normalTo text table first count
+  unfolding normalTo
+  normal-long h = rw (lt-leb _ _ h) ea
+
+  pub normal-taken : (r : Answer) → length text ≤ 16777216 → r ≡ withNormal text a → r ≡ normalTo text table first count
+  unfolding normalTo
+  normal-taken r h e = rw (le-leb _ _ h) (e ∙ ap (withNormal text) ea)

@@ -21,12 +21,15 @@ use Rattle.mhz.specs.declared.Hz.the-variants.{Is, Outside}
 use Rattle.refusals.specs.declared.Refusal.the-variants.{BadRow, InexactFrequency}
 use Rattle.rowcheck.specs.Check.{placed, sound}
 use Rattle.tables.specs.Table.{named}
-use Rattle.tables.specs.Place.{stands, part}
+use Rattle.tables.specs.Place.{stands, part, tidy}
+use Rattle.normalize.specs.Modes.{submodes, aliases}
+use Rattle.normalize.specs.Normal.{parentEntry, aliasEntry, aliasedPlace, splitPlace, normalPlaces}
 use Rattle.adif.specs.Grammar.{Field}
 use Rattle.columns.specs.Columns.{columnNames, columnNamed, band, dxcc}
+use Rattle.model.specs.Normal.{bandAt, blank, normalBandPlace, normalBandRxPlace, normalColumns, normalQso}
 use Rattle.model.specs.Answer.{noColumns, noFrequency, noDxcc, emptyQso, accepted, refused}
 use Rattle.mapping.specs.Contact.{contactOf}
-use Rattle.mapping.specs.Mapping.{columnsOf, dxccAt, qsoWith, answerWith, answerOver, mapped, isRow, rises, isRecord, mappedTo}
+use Rattle.mapping.specs.Mapping.{columnsOf, dxccAt, qsoWith, answerWith, answerOver, mapped, isRow, rises, isRecord, mappedTo, withNormal}
 
 abbrev text : List ℕ
 text = ascii "band40m  dxcc-7foo"
@@ -70,3 +73,8 @@ its-entity = refl
 its-extra : contactOf fields .extra ≡ record { name = ascii "FOO"; value = [] } ∷ []
 unfolding contactOf columnNamed columnNames named sameRaised raised
 its-extra = refl
+
+-- the empty QSO is normal
+still-empty : withNormal text (refused BadRow emptyQso) ≡ refused BadRow emptyQso
+unfolding normalQso normalColumns normalPlaces tidy part splitPlace parentEntry aliasEntry aliasedPlace named submodes aliases sameRaised raised normalBandPlace blank normalBandRxPlace bandAt
+still-empty = refl

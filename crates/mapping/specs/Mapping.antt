@@ -20,6 +20,7 @@ use Rattle.writer.specs.Rows.{rowsFrom}
 use Rattle.tables.specs.Place.{absent, stands, part}
 use Rattle.tables.specs.declared.Place.{Place}
 use Rattle.columns.specs.Columns.{columnNames, isColumn, freq, freqRx, dxcc}
+use Rattle.model.specs.Normal.{normalQso}
 use Rattle.model.specs.Answer.{noFrequency, noDxcc, emptyQso, accepted, refused}
 use Rattle.model.specs.declared.Frequency.{Frequency}
 use Rattle.model.specs.declared.Dxcc.{Dxcc}
@@ -106,3 +107,11 @@ mappedTo text table first count =
     (pick (isRecord text (rowsFrom table first count)) (mapped text (rowsFrom table first count)) (refused BadRow emptyQso))
     (refused BadRow emptyQso))
     (refused TooLong emptyQso)
+
+-- mapped and normalised, as `parse_adif_to_qsos` makes of each record; the empty QSO of a refused record stays empty
+abbrev pub withNormal : List ℕ → Answer → Answer
+withNormal text a = record { qso = normalQso text (a .qso); verdict = a .verdict }
+
+unfoldable pub normalTo : List ℕ → List ℕ → ℕ → ℕ → Answer
+normalTo text table first count =
+    pick (leb (length text) 16777216) (withNormal text (mappedTo text table first count)) (mappedTo text table first count)

@@ -6,7 +6,7 @@ ghost use lib.Dec.{ltb};
 ghost use Rattle.text.specs.Pick.{both};
 ghost use Rattle.rowcheck.specs.Check.{recordIn};
 ghost use Rattle.writer.specs.Rows.{rowsFrom};
-ghost use Rattle.mapping.specs.Mapping.{valuePlace, columnsOf, isOutside, frequencyOf, dxccOf, dxccAt, qsoWith, answerWith, answerOver, mapped, isRow, rises, isRecord, mappedTo};
+ghost use Rattle.mapping.specs.Mapping.{valuePlace, columnsOf, isOutside, frequencyOf, dxccOf, dxccAt, qsoWith, answerWith, answerOver, mapped, isRow, rises, isRecord, mappedTo, withNormal, normalTo};
 use columns::DXCC;
 use columns::FREQ;
 use columns::FREQ_RX;
@@ -193,4 +193,27 @@ pub fn record_to_qso(text: &[u8], table: &[u32], first: usize, count: usize) -> 
         return model::refused(Refusal::BadRow, model::empty());
     }
     map_rows(text, table, first, count)
+}
+
+fn normal_answer(text: &[u8], answer: Answer) -> Answer
+    requires { ⌜ length (now text) ≤ 16777216 ⌝ }
+    ensures { λ r. ⌜ r ≡ withNormal (now (text .entry)) answer ⌝ }
+{
+    let qso = answer.qso;
+    let verdict = answer.verdict;
+    Answer {
+        qso: qso.normalize(text),
+        verdict,
+    }
+}
+
+// Mapped and normalised: what `parse_adif_to_qsos` makes of each record.
+pub fn record_to_normal_qso(text: &[u8], table: &[u32], first: usize, count: usize) -> Answer
+    ensures { λ r. ⌜ r ≡ normalTo (now (text .entry)) (now (table .entry)) first count ⌝ }
+{
+    let answer = record_to_qso(text, table, first, count);
+    if refusals::LONGEST < text.len() {
+        return answer;
+    }
+    normal_answer(text, answer)
 }

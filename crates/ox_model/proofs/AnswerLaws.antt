@@ -12,8 +12,8 @@ use Rattle.columns.specs.Columns.{columnNamed}
 use Rattle.model.specs.Answer.{normalizedTo}
 use Rattle.model.specs.declared.Answer.{Answer}
 use Rattle.model.specs.declared.Qso.{Qso}
-use Rattle.mapping.specs.Mapping.{mappedTo}
-use Rattle.ox_model.specs.Answers.{columnNumber, refusalOf, answerOf, mapAnswer, normalizeAnswer}
+use Rattle.mapping.specs.Mapping.{mappedTo, normalTo}
+use Rattle.ox_model.specs.Answers.{columnNumber, refusalOf, answerOf, mapAnswer, mapNormalAnswer, normalizeAnswer}
 use Rattle.ox_model.specs.declared.QsoAnswer.{QsoAnswer}
 
 module _ (name : List ℕ) (f : Found) (e : f ≡ columnNamed name) where
@@ -37,3 +37,7 @@ mapped-is text table first count a r e h = h ∙ ap answerOf e
 pub normalized-is : (text : List ℕ) (q : Qso) (a : Answer) (r : QsoAnswer) → a ≡ normalizedTo text q → r ≡ answerOf a → r ≡ normalizeAnswer text q
 unfolding normalizeAnswer
 normalized-is text q a r e h = h ∙ ap answerOf e
+
+pub mapped-normal-is : (text table : List ℕ) (first count : ℕ) (a : Answer) (r : QsoAnswer) → a ≡ normalTo text table first count → r ≡ answerOf a → r ≡ mapNormalAnswer text table first count
+unfolding mapNormalAnswer
+mapped-normal-is text table first count a r e h = h ∙ ap answerOf e

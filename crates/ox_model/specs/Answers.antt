@@ -9,7 +9,7 @@ use Rattle.tables.specs.declared.Found.the-variants.{At, Nothing}
 use Rattle.model.specs.Answer.{normalizedTo}
 use Rattle.model.specs.declared.Answer.{Answer}
 use Rattle.model.specs.declared.Qso.{Qso}
-use Rattle.mapping.specs.Mapping.{mappedTo}
+use Rattle.mapping.specs.Mapping.{mappedTo, normalTo}
 use Rattle.ox_model.specs.declared.QsoAnswer.{QsoAnswer}
 
 -- 13 for no column
@@ -27,6 +27,9 @@ answerOf a = record { refusal = refusalOf (a .verdict); qso = a .qso }
 
 unfoldable pub mapAnswer : List ℕ → List ℕ → ℕ → ℕ → QsoAnswer
 mapAnswer text table first count = answerOf (mappedTo text table first count)
+
+unfoldable pub mapNormalAnswer : List ℕ → List ℕ → ℕ → ℕ → QsoAnswer
+mapNormalAnswer text table first count = answerOf (normalTo text table first count)
 
 unfoldable pub normalizeAnswer : List ℕ → Qso → QsoAnswer
 normalizeAnswer text q = answerOf (normalizedTo text q)

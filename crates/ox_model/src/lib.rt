@@ -1,7 +1,7 @@
 // A record's rows as a QSO over their text, and a QSO normalised. What is not said with an answer is 0.
 ghost use mathlib.Core.Path.{_≡_};
 ghost use Rattle.columns.specs.Columns.{columnNamed};
-ghost use Rattle.ox_model.specs.Answers.{columnNumber, refusalOf, answerOf, mapAnswer, normalizeAnswer};
+ghost use Rattle.ox_model.specs.Answers.{columnNumber, refusalOf, answerOf, mapAnswer, mapNormalAnswer, normalizeAnswer};
 use model::Answer;
 use model::Qso;
 use refusals::Verdict;
@@ -56,6 +56,19 @@ pub extern "C" fn ox_record_to_qso(
     ensures { λ r. ⌜ r ≡ mapAnswer (now (text .entry)) (now (table .entry)) first count ⌝ }
 {
     answer_of(mapping::record_to_qso(text, table, first, count))
+}
+
+// The same, normalised: what `parse_adif_to_qsos` makes of each record.
+#[no_mangle]
+pub extern "C" fn ox_record_to_normal_qso(
+    text: &[u8],
+    table: &[u32],
+    first: usize,
+    count: usize,
+) -> QsoAnswer
+    ensures { λ r. ⌜ r ≡ mapNormalAnswer (now (text .entry)) (now (table .entry)) first count ⌝ }
+{
+    answer_of(mapping::record_to_normal_qso(text, table, first, count))
 }
 
 // As `Qso::normalize`.

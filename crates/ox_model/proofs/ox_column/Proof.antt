@@ -2,27 +2,20 @@ use Rattle.ox_model.proofs.AnswerLaws.{a-column, no-column}
 use borrow.Author.Needs.{needs}
 use Rattle.ox_model.proofs.ox_column.Statement.{statement}
 use Rattle.ox_model.proofs.ox_column.Tie as tie
-use Rattle.ox_model.proofs.ox_column.Reads as reads
-use Rattle.ox_model.proofs.ox_column.Lts as lts
 use Rattle.columns.proofs.column_of.Reads as column-of-reads
 
--- src/lib.rt:23:9
 column-of-requires : tie.Need-column-of-requires
 column-of-requires c κs = search needs
 
--- src/lib.rt:25:19
 enum-known-found : tie.Need-enum-known-found
 enum-known-found c = search needs
 
--- src/lib.rt:26:27
 enum-told : tie.Need-enum-told
 enum-told c = search needs
 
--- src/lib.rt:19:1
 returns : tie.Need-returns
 returns c = search a-column
 
--- src/lib.rt:19:1
 returns-2 : tie.Need-returns-2
 returns-2 c = search no-column
 

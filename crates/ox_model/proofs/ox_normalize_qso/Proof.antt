@@ -2,20 +2,15 @@ use Rattle.ox_model.proofs.AnswerLaws.{normalized-is}
 use borrow.Author.Needs.{needs}
 use Rattle.ox_model.proofs.ox_normalize_qso.Statement.{statement}
 use Rattle.ox_model.proofs.ox_normalize_qso.Tie as tie
-use Rattle.ox_model.proofs.ox_normalize_qso.Reads as reads
-use Rattle.ox_model.proofs.ox_normalize_qso.Lts as lts
 use Rattle.model.proofs.normalized.Reads as normalized-reads
 use Rattle.ox_model.proofs.answer_of.Reads as answer-of-reads
 
--- src/lib.rt:61:15
 normalized-requires : tie.Need-normalized-requires
 normalized-requires c κs = search needs
 
--- src/lib.rt:61:5
 answer-of-requires : tie.Need-answer-of-requires
 answer-of-requires c κs = search needs
 
--- src/lib.rt:57:1
 returns : tie.Need-returns
 returns c = search normalized-is
 

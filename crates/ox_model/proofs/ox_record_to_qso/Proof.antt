@@ -2,20 +2,15 @@ use Rattle.ox_model.proofs.AnswerLaws.{mapped-is}
 use borrow.Author.Needs.{needs}
 use Rattle.ox_model.proofs.ox_record_to_qso.Statement.{statement}
 use Rattle.ox_model.proofs.ox_record_to_qso.Tie as tie
-use Rattle.ox_model.proofs.ox_record_to_qso.Reads as reads
-use Rattle.ox_model.proofs.ox_record_to_qso.Lts as lts
 use Rattle.mapping.proofs.record_to_qso.Reads as record-to-qso-reads
 use Rattle.ox_model.proofs.answer_of.Reads as answer-of-reads
 
--- src/lib.rt:53:15
 record-to-qso-requires : tie.Need-record-to-qso-requires
 record-to-qso-requires c κs = search needs
 
--- src/lib.rt:53:5
 answer-of-requires : tie.Need-answer-of-requires
 answer-of-requires c κs = search needs
 
--- src/lib.rt:49:1
 returns : tie.Need-returns
 returns c = search mapped-is
 
