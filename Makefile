@@ -1,9 +1,13 @@
 # What one runs here. Each target works from a fresh clone; host/host.sh fetches what it lacks.
-.PHONY: test compare bench record preview
+.PHONY: test library compare bench record preview
 
 # the gate: ends in `N passed, 0 failed`
 test:
 	@gate/test.sh
+
+# target/staticlib/liboxbreathe.a, for C and Rust to link
+library:
+	@host/host.sh library
 
 # every comparison at its full count, for docs/COMPARISONS.md
 compare:

@@ -1,5 +1,6 @@
 #!/bin/sh
 # Builds the test host (the library, Rust's std and the original rigflow in one process) and runs it:
+#   host/host.sh library          target/staticlib/liboxbreathe.a
 #   host/host.sh compare [full]   the library's answers against std's and the original's, group by group
 #   host/host.sh bench            instructions of both between marks, one table; on x86-64 times as well
 #   host/host.sh record [DIR]     the answers of std and the original as vectors, into DIR (else where they are kept)
@@ -64,10 +65,13 @@ native() {
     command -v rustc >/dev/null || die "no rustc: Rust 1.85 or newer is needed to build the host"
     rustc=rustc flags='' run=''
 }
-cross() {
-    command -v rt >/dev/null || die "no rt: the Rattle kit links and runs the host here"
+kit_tools() {
+    command -v rt >/dev/null || die "no rt: the Rattle kit builds the library"
     kit=${RATTLE_HOME:-$(dirname "$(dirname "$(readlink -f "$(command -v rt)")")")}
     tools=$kit/on/$arch/toolchain
+}
+cross() {
+    kit_tools
     if [ ! -f "$cache/cross.ok" ]; then
         apt_ready rustc-web
         here=$(dpkg --print-architecture)
@@ -159,16 +163,23 @@ original() {
         --extern serde="$deps/libserde.so" --extern chrono="$deps/libchrono.rlib" -L "$deps" "$@"
     with_original="--cfg original --extern original=$to/liboriginal.rlib -L $deps"
 }
-# the static library, built anew where a file or a folder of the crates is newer
+# the static library, built anew where a file or a folder of the crates is newer: the exported calls of each crate `ox_…`, whose
+# archives have one object each, as one archive
 staticlib() {
     made=$archive/liboxbreathe.a
     if [ -f "$made" ] && [ -z "$(find "$root/crates" "$root/crates.txt" -newer "$made" | head -n 1)" ]; then
         return 0
     fi
-    (cd "$root" && rt staticlib oxbreathe) >"$out/staticlib.log" 2>&1 || {
-        cat "$out/staticlib.log"
-        die "rt staticlib oxbreathe failed"
-    }
+    kit_tools
+    rm -f "$made" "$made.new"
+    for area in $(sed -n 's/^\(ox_[a-z]*\):.*/\1/p' "$root/crates.txt"); do
+        (cd "$root" && rt staticlib "$area") >"$out/staticlib.log" 2>&1 || {
+            cat "$out/staticlib.log"
+            die "rt staticlib $area failed"
+        }
+        (cd "$archive" && "$tools/bin/llvm-ar" x "lib$area.a" "$area.o" && "$tools/bin/llvm-ar" rcs "$made.new" "$area.o" && rm "$area.o")
+    done
+    mv "$made.new" "$made"
 }
 # build NAME OPTION..: the program NAME; the options are for the original
 build() {
@@ -231,13 +242,17 @@ compare)
     *) die "compare takes nothing, or full" ;;
     esac
     ;;
+library)
+    archive=$root/target/staticlib
+    staticlib
+    ;;
 bench) bench ;;
 record)
     mkdir -p "${2:-$vectors}"
     compare record "${2:-$vectors}"
     ;;
 *)
-    sed -n '3,5s/^#   //p' "$0"
+    sed -n '3,6s/^#   //p' "$0"
     exit 2
     ;;
 esac

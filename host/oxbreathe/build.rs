@@ -1,4 +1,4 @@
-//! Tells Cargo where the static library is: where `rt staticlib oxbreathe` puts it, or in the folder OXBREATHE_LIB.
+//! Tells Cargo where the static library is: where `make library` puts it, or in the folder OXBREATHE_LIB.
 
 fn main() {
     let built = concat!(env!("CARGO_MANIFEST_DIR"), "/../../target/staticlib");

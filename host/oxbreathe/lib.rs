@@ -1,5 +1,5 @@
 //! Oxbreathe for Rust: safe calls of the proved library, with no dependencies. It links `liboxbreathe.a`, which
-//! `rt staticlib oxbreathe` writes to target/staticlib; Cargo looks there, and rustc is told by `-L native=`.
+//! `make library` writes to target/staticlib; Cargo looks there, and rustc is told by `-L native=`.
 //!
 //! Every call takes any bytes and answers with a value or a [`Refusal`]; none panics.
 //!

@@ -1,0 +1,3 @@
+pub mod KeyLaws
+pub mod ViewLaws
+pub mod Determined

@@ -1,0 +1,2 @@
+pub mod FrequencyAnswers
+pub mod Determined

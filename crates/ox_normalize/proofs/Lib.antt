@@ -1,0 +1,2 @@
+pub mod NormalizingAnswers
+pub mod Determined

@@ -1,0 +1,3 @@
+pub mod TextAnswers
+pub mod WriteAnswers
+pub mod Determined

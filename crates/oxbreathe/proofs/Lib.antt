@@ -1,6 +1,0 @@
-pub mod TextAnswers
-pub mod WriteAnswers
-pub mod NormalizingAnswers
-pub mod FrequencyAnswers
-pub mod ReadAnswers
-pub mod Determined

@@ -1,5 +1,0 @@
-pub mod Texts
-pub mod Readings
-pub mod Frequencies
-pub mod Writing
-pub mod Normalizing
