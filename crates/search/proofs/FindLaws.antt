@@ -6,16 +6,16 @@ use Prim.Native.Nat.{ℕ, zero, suc, _+_, _-_, _*_, _/_, _%_, _≤_, _<_}
 use native.Mathlib.Nat.{mod-lt, div-add-mod', add-zero}
 use native.Mathlib.Omega.{arith}
 use lib.ListN.{length, getD}
-use lib.Dec.{eqb}
-use lib.IntN.{ℤ}
-use borrow.Author.Tests.{eq-eqb, ne-eqb, not-true, not-false}
+use lib.Dec.{eqb, leb, ltb}
+use lib.IntN.{ℤ, pos, negsuc}
+use borrow.Author.Tests.{eq-eqb, ne-eqb, not-true, not-false, leb-true, leb-false, lt-ltb, le-ltb}
 use Rattle.text.specs.Pick.{pick, both}
 use Rattle.text.proofs.BoolLaws.{cases, never, both-left, both-right}
 use Rattle.letters.specs.Capitals.{capitals}
 use Rattle.letters.specs.Same.{same, sameRaised}
 use Rattle.letters.proofs.SameLaws.{same-true, same-raised-true}
 use Rattle.times.specs.Moments.{momentOf}
-use Rattle.times.specs.Window.{isWithin}
+use Rattle.times.specs.Window.{apart, reaches, isWithin, limitOf}
 use Rattle.times.specs.declared.Moment.{Moment}
 use Rattle.times.specs.declared.Moment.the-variants.{At, Never}
 use Rattle.chain.specs.Chain.{over, first, orElse, col, Linked}
@@ -26,8 +26,8 @@ use Rattle.contacts.specs.Lists.{textAt, callAt, dateAt, timeAt, bandAt, modeAt
 use Rattle.index.specs.Rows.{Row, low, high, joined, hasMoment, secondsIn, momentFrom, codeOf, rowOf, rowBy, rowAt}
 use Rattle.index.specs.Index.{freeOf, bucketOf}
 use Rattle.index.proofs.ChainLaws.{hdOf, nxOf}
-use Rattle.search.specs.Keys.{inLog}
-use Rattle.search.specs.Search.{momentIn, matches, firstFrom, firstMatch, Indexed}
+use Rattle.dedupe.specs.Keys.{inLog}
+use Rattle.search.specs.Search.{near, momentIn, matches, firstFrom, firstMatch, Indexed}
 use Rattle.search.specs.Steps.{rowMoment, rowMatches}
 use Rattle.search.proofs.ReadyLaws.{placeFrom, contact-there, contacts-length, Ready, ready}
 
@@ -47,9 +47,9 @@ module _ (s : List ℕ) (row : Row) (p : ℕ) (e : freeOf row ≡ freeOf (rowAt 
   unfolding rowAt rowBy rowOf
   row-code = ap (λ (r : Row). getD r 0 0) e
 
-  pub row-matches : (call mode band : List ℕ) (moment : Moment) (window : ℤ) → rowMatches s row call mode band moment window ≡ matches call mode band moment window (contactAt s p)
+  pub row-matches : (call mode band : List ℕ) (moment : Moment) (limit : ℕ) → rowMatches s row call mode band moment limit ≡ matches call mode band moment limit (contactAt s p)
   unfolding rowMatches rowMoment matches momentIn contactAt rowAt rowBy rowOf
-  row-matches call mode band moment window =
+  row-matches call mode band moment limit =
       let a : getD row 6 0 ≡ callAt p = ap (λ (r : Row). getD r 4 0) e in
       let b : getD row 9 0 ≡ bandAt s p = ap (λ (r : Row). getD r 7 0) e in
       let d : getD row 10 0 ≡ modeAt s p = ap (λ (r : Row). getD r 8 0) e in
@@ -60,9 +60,9 @@ module _ (s : List ℕ) (row : Row) (p : ℕ) (e : freeOf row ≡ freeOf (rowAt 
       rw (a, b, d, f, g, h, moment-back m) refl
 
 -- ---- what matches has the code
-pub match-code : (call mode band : List ℕ) (moment : Moment) (window : ℤ) (c : Contact) → matches call mode band moment window c ≡ true → codeOf (callOf c) (modeOf c) (bandOf c) ≡ codeOf call mode band
+pub match-code : (call mode band : List ℕ) (moment : Moment) (limit : ℕ) (c : Contact) → matches call mode band moment limit c ≡ true → codeOf (callOf c) (modeOf c) (bandOf c) ≡ codeOf call mode band
 unfolding matches inLog codeOf
-match-code call mode band moment window c e =
+match-code call mode band moment limit c e =
     let k = both-left (inLog call mode band (callOf c) (modeOf c) (bandOf c)) _ e in
     let a = same-raised-true call (callOf c) (both-left (sameRaised call (callOf c)) _ k) in
     let r = both-right (sameRaised call (callOf c)) _ k in
@@ -98,9 +98,9 @@ first-is P p d cs h =
     rw z at (first-across P p d cs 0 (λ i l. let y : 0 + i ≡ i = omega arith in rw y (h i l)))
 
 -- ---- the walk
-module _ (s : List ℕ) (rows : List Row) (call mode band : List ℕ) (moment : Moment) (window : ℤ) where
+module _ (s : List ℕ) (rows : List Row) (call mode band : List ℕ) (moment : Moment) (limit : ℕ) where
   abbrev pub Hit : ℕ → Bool
-  Hit i = rowMatches s (getD rows i []) call mode band moment window
+  Hit i = rowMatches s (getD rows i []) call mode band moment limit
 
   unfoldable pub Walking : ℕ → ℕ → ℕ → ℕ → Type 0
   Walking n code at best = First Hit (bucketOf rows n) (code % n) n at best
@@ -116,7 +116,7 @@ module _ (s : List ℕ) (rows : List Row) (call mode band : List ℕ) (moment : 
     unfolding contactAt
     hit-code j h e =
         row-code s (getD rows j []) (placeFrom s j 5) (R .free j h)
-        ∙ match-code call mode band moment window (contactAt s (placeFrom s j 5)) (sym (row-matches s (getD rows j []) (placeFrom s j 5) (R .free j h) call mode band moment window) ∙ e)
+        ∙ match-code call mode band moment limit (contactAt s (placeFrom s j 5)) (sym (row-matches s (getD rows j []) (placeFrom s j 5) (R .free j h) call mode band moment limit) ∙ e)
         ∙ sym ec
 
     sub : (j : ℕ) → j < n → Hit j ≡ true → bucketOf rows n j ≡ code % n
@@ -141,17 +141,17 @@ module _ (s : List ℕ) (rows : List Row) (call mode band : List ℕ) (moment : 
     unfolding Walking
     find-less at best x W na ex = next-less (bucketOf rows n) n n (hdOf rows) (nxOf rows) (R .links) (code % n) hb Hit sub at x (W .within) (W .chain) na ex
 
-    pub find-end : (at best : ℕ) → Walking n code at best → at ≡ 0 → best ≡ firstMatch call mode band moment window (contactsOf s)
+    pub find-end : (at best : ℕ) → Walking n code at best → at ≡ 0 → best ≡ firstMatch call mode band moment limit (contactsOf s)
     unfolding Walking firstMatch contactsOf
     find-end at best W e =
         let d : Contact = contact 0 0 [] [] [] [] [] in
         let l : length (contactsFrom s (countOf s) 5) ≡ n = contacts-length s (countOf s) 5 ∙ sym (R .count) in
         first-end (bucketOf rows n) n n (hdOf rows) (nxOf rows) (R .links) (code % n) hb Hit sub at best W e
         ∙ sym
-        (first-is Hit (matches call mode band moment window) d (contactsFrom s (countOf s) 5)
+        (first-is Hit (matches call mode band moment limit) d (contactsFrom s (countOf s) 5)
         (λ i h. let k : i < n = omega (arith, l) in
         let g : i < countOf s = omega (arith, R .count) in
-        row-matches s (getD rows i []) (placeFrom s i 5) (R .free i k) call mode band moment window ∙ ap (matches call mode band moment window) (sym (contact-there s (countOf s) 5 i d g)))
+        row-matches s (getD rows i []) (placeFrom s i 5) (R .free i k) call mode band moment limit ∙ ap (matches call mode band moment limit) (sym (contact-there s (countOf s) 5 i d g)))
         ∙ ap (first Hit) l)
 
     pub row-in : (at best : ℕ) → Walking n code at best → (at ≡ 0 → ⊥) → at - 1 < length rows
@@ -163,7 +163,7 @@ module _ (s : List ℕ) (rows : List Row) (call mode band : List ℕ) (moment : 
       let r : n ≤ length rows = ready s n rows I .room in
       let m : code % n < n = mod-lt code (omega (arith, hn)) in omega arith
 
-  pub find-none : (n : ℕ) → Indexed s n rows → n ≡ 0 → 0 ≡ firstMatch call mode band moment window (contactsOf s)
+  pub find-none : (n : ℕ) → Indexed s n rows → n ≡ 0 → 0 ≡ firstMatch call mode band moment limit (contactsOf s)
   unfolding firstMatch contactsOf contactsFrom firstFrom
   find-none n I e = let z : countOf s ≡ 0 = sym (ready s n rows I .count) ∙ e in rw z refl
 
@@ -190,9 +190,9 @@ module _ (s : List ℕ) (row : Row) (call mode band : List ℕ) where
           let a : sameRaised call (textAt s (getD row 6 0)) ≡ true = rw (← ep, ← ec, ← et) (not-false t nt) in
           let d : same mode (textAt s (getD row 10 0)) ≡ true = rw (← eq, ← em, ← eu) (not-false u n) in rw (a, d, ← er, ← eb) ev
 
-  module _ (moment : Moment) (window : ℤ) (code : ℕ) where
+  module _ (moment : Moment) (limit code : ℕ) where
     abbrev pub Test : Bool
-    Test = both (eqb (getD row 2 0) code) (rowMatches s row call mode band moment window)
+    Test = both (eqb (getD row 2 0) code) (rowMatches s row call mode band moment limit)
 
     pub match-other : (p : ℕ) → p ≡ getD row 2 0 → (p ≡ code → ⊥) → false ≡ Test
     match-other p e n = rw (ne-eqb (getD row 2 0) code (λ z. n (e ∙ z))) refl
@@ -201,18 +201,62 @@ module _ (s : List ℕ) (row : Row) (call mode band : List ℕ) where
     no-both true = refl
     no-both false = refl
 
-    pub match-far : (p : ℕ) (x : Moment) (t : Bool) → p ≡ getD row 2 0 → p ≡ code → x ≡ rowMoment row → t ≡ isWithin moment x window → not t ≡ true → false ≡ Test
+    pub match-far : (p : ℕ) (x : Moment) (t : Bool) → p ≡ getD row 2 0 → p ≡ code → x ≡ rowMoment row → t ≡ near moment x limit → not t ≡ true → false ≡ Test
     unfolding rowMatches
     match-far p x t e f ex et n =
-        let u : isWithin moment (rowMoment row) window ≡ false = rw (← ex, ← et) (not-true t n) in
+        let u : near moment (rowMoment row) limit ≡ false = rw (← ex, ← et) (not-true t n) in
         rw (eq-eqb (getD row 2 0) code (sym e ∙ f), u) (sym (no-both Key))
 
     yes-both : (a : Bool) → both a true ≡ a
     yes-both true = refl
     yes-both false = refl
 
-    pub match-key : (p : ℕ) (x : Moment) (t k : Bool) → p ≡ getD row 2 0 → p ≡ code → x ≡ rowMoment row → t ≡ isWithin moment x window → not t ≡ false → k ≡ Key → k ≡ Test
+    pub match-key : (p : ℕ) (x : Moment) (t k : Bool) → p ≡ getD row 2 0 → p ≡ code → x ≡ rowMoment row → t ≡ near moment x limit → not t ≡ false → k ≡ Key → k ≡ Test
     unfolding rowMatches
     match-key p x t k e f ex et n ek =
-        let u : isWithin moment (rowMoment row) window ≡ true = rw (← ex, ← et) (not-false t n) in
+        let u : near moment (rowMoment row) limit ≡ true = rw (← ex, ← et) (not-false t n) in
         rw (eq-eqb (getD row 2 0) code (sym e ∙ f), u) (ek ∙ sym (yes-both Key))
+
+pub no-moment : (there x : ℕ) → there ≡ 0 → Never ≡ momentFrom there x
+unfolding momentFrom
+no-moment there x e = rw e refl
+
+pub a-moment : (there x : ℕ) → (there ≡ 0 → ⊥) → At x ≡ momentFrom there x
+unfolding momentFrom
+a-moment zero x n = absurd (n refl)
+a-moment (suc k) x n = refl
+
+-- ---- nearness: with the window's limit it is what `times` calls within the window
+pub near-never : (a b : Moment) (limit : ℕ) → a ≡ Never → false ≡ near a b limit
+unfolding near
+near-never a b limit e = rw e refl
+
+pub never-near : (a b : Moment) (limit x : ℕ) → a ≡ At x → b ≡ Never → false ≡ near a b limit
+unfolding near
+never-near a b limit x e f = rw (e, f) refl
+
+pub both-near : (a b : Moment) (limit x y d : ℕ) → a ≡ At x → b ≡ At y → d ≡ apart x y → ltb d limit ≡ near a b limit
+unfolding near
+both-near a b limit x y d e f g = rw (e, f, g) refl
+
+reached : (d : ℕ) (w : ℤ) → ltb d (limitOf w) ≡ reaches w d
+unfolding limitOf reaches
+reached d (pos n) =
+    cases (leb d n)
+    (λ u. rw u (lt-ltb d (n + 1) (omega (arith, leb-true d n u))))
+    (λ u. rw u (le-ltb d (n + 1) (omega (arith, leb-false d n u))))
+reached d (negsuc n) = le-ltb d 0 (omega arith)
+
+pub near-within : (a b : Moment) (w : ℤ) → near a b (limitOf w) ≡ isWithin a b w
+unfolding near isWithin
+near-within Never b w = refl
+near-within (At x) Never w = refl
+near-within (At x) (At y) w = reached (apart x y) w
+
+pub apart-below : (a b : ℕ) → a < b → b - a ≡ apart a b
+unfolding apart
+apart-below a b h = omega arith
+
+pub apart-above : (a b : ℕ) → b ≤ a → a - b ≡ apart a b
+unfolding apart
+apart-above a b h = omega arith

@@ -2,18 +2,15 @@
 // index, which holds every contact of that key, and keeps the last match that it meets, which is the first of the list.
 ghost use mathlib.Core.Path.{_≡_};
 ghost use Prim.Native.Nat.{ℕ, _+_, _*_, _≤_, _<_};
-ghost use lib.ListN.{length, getD, replicate};
-ghost use lib.Seq.{sets};
+ghost use lib.ListN.{length, getD};
 ghost use lib.Dec.{eqb};
 ghost use Rattle.text.specs.Pick.{pick, both};
-ghost use Rattle.contacts.specs.Lists.{textAt, contactAt, contactsOf};
+ghost use Rattle.contacts.specs.Lists.{textAt, contactsOf};
+ghost use Rattle.times.specs.Window.{apart};
 ghost use Rattle.index.specs.Rows.{joined, momentFrom};
-ghost use Rattle.index.specs.Index.{indexAfter, Checked};
-ghost use Rattle.search.specs.Keys.{inLog};
-ghost use Rattle.search.specs.Search.{firstMatch, Indexed, matchFor, searchedAs, foundAfter};
-ghost use Rattle.search.specs.Steps.{rowMoment, rowMatches, matchesFrom};
-use contacts::Listed;
-use refusals::Refusal;
+ghost use Rattle.dedupe.specs.Keys.{inLog};
+ghost use Rattle.search.specs.Search.{near, firstMatch, Indexed};
+ghost use Rattle.search.specs.Steps.{rowMoment, rowMatches};
 use times::Moment;
 
 const HALF: u64 = 4_294_967_296;
@@ -25,6 +22,25 @@ fn moment_from(there: u32, low: u32, high: u32) -> Moment
         return Moment::Never;
     }
     Moment::At(low as u64 + high as u64 * HALF)
+}
+
+fn distance(a: u64, b: u64) -> u64
+    ensures { λ r. ⌜ r ≡ apart a b ⌝ }
+{
+    if a < b { b - a } else { a - b }
+}
+
+// Both are moments, and nearer than the limit.
+fn is_near(a: Moment, b: Moment, limit: u64) -> bool
+    ensures { λ r. ⌜ r ≡ near a b limit ⌝ }
+{
+    match a {
+        Moment::Never => false,
+        Moment::At(x) => match b {
+            Moment::Never => false,
+            Moment::At(y) => distance(x, y) < limit,
+        },
+    }
 }
 
 fn moment_in(row: [u32; 14]) -> Moment
@@ -55,14 +71,14 @@ fn is_match(
     mode: &[u8],
     band: &[u8],
     moment: Moment,
-    window: i64,
+    limit: u64,
 ) -> bool
-    ensures { λ r. ⌜ r ≡ both (eqb (getD row 2 0) code) (rowMatches (now (list .entry)) row (now (call .entry)) (now (mode .entry)) (now (band .entry)) moment window) ⌝ }
+    ensures { λ r. ⌜ r ≡ both (eqb (getD row 2 0) code) (rowMatches (now (list .entry)) row (now (call .entry)) (now (mode .entry)) (now (band .entry)) moment limit) ⌝ }
 {
     if index::number_in(row, 2) != code {
         return false;
     }
-    if !times::window::within_window(moment, moment_in(row), window) {
+    if !is_near(moment, moment_in(row), limit) {
         return false;
     }
     is_key(list, row, call, mode, band)
@@ -83,10 +99,10 @@ pub fn find(
     mode: &[u8],
     band: &[u8],
     moment: Moment,
-    window: i64,
+    limit: u64,
 ) -> usize
     requires { ⌜ Indexed (now list) n (now rows) ⌝ }
-    ensures { λ r. ⌜ r ≡ firstMatch (now (call .entry)) (now (mode .entry)) (now (band .entry)) moment window (contactsOf (now (list .entry))) ⌝ }
+    ensures { λ r. ⌜ r ≡ firstMatch (now (call .entry)) (now (mode .entry)) (now (band .entry)) moment limit (contactsOf (now (list .entry))) ⌝ }
 {
     if n == 0 {
         return 0;
@@ -97,7 +113,7 @@ pub fn find(
     let mut best = 0;
     while at != 0 {
         let i = at - 1;
-        let t = is_match(list, rows[i], code, call, mode, band, moment, window);
+        let t = is_match(list, rows[i], code, call, mode, band, moment, limit);
         best = chosen(t, at, best);
         at = index::number_in(rows[i], 1);
     }
