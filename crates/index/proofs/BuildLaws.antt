@@ -23,7 +23,7 @@ unfolding rowsFrom
 length-rows s zero at = refl
 length-rows s (suc k) at = ap suc (length-rows s k _)
 
-drop-replicate : {A : Type 0} (n m : ℕ) (x : A) → drop n (replicate m x) ≡ replicate (m - n) x
+pub drop-replicate : {A : Type 0} (n m : ℕ) (x : A) → drop n (replicate m x) ≡ replicate (m - n) x
 drop-replicate zero m x = let z : m - 0 ≡ m = omega arith in rw z refl
 drop-replicate (suc n) zero x = let z : 0 - suc n ≡ 0 = omega arith in rw z refl
 drop-replicate (suc n) (suc m) x = let z : suc m - suc n ≡ m - n = omega arith in rw z (drop-replicate n m x)

@@ -1,2 +1,3 @@
 pub mod ReadyLaws
 pub mod FindLaws
+pub mod Determined

@@ -2,22 +2,16 @@ use Rattle.search.proofs.FindLaws.{no-moment, a-moment}
 use borrow.Author.Needs.{needs}
 use Rattle.search.proofs.moment_from.Statement.{statement}
 use Rattle.search.proofs.moment_from.Tie as tie
-use Rattle.search.proofs.moment_from.Reads as reads
-use Rattle.search.proofs.moment_from.Lts as lts
 
--- src/lib.rt:25:9
 returns : tie.Need-returns
 returns c = search (needs, no-moment)
 
--- src/lib.rt:27:29
 mul-t7 : tie.Need-mul-t7
 mul-t7 c = search needs
 
--- src/lib.rt:27:16
 add-t8 : tie.Need-add-t8
 add-t8 c = search needs
 
--- src/lib.rt:21:1
 returns-2 : tie.Need-returns-2
 returns-2 c = search (needs, a-moment)
 
