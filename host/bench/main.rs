@@ -2,6 +2,8 @@
 //!   bench count                 each call once between marks, for emulator/count.c to count
 //!   bench table COUNTS [time]   the table, from the marks in the file COUNTS, and with times measured here
 
+#[cfg(original)]
+mod contacts;
 mod measure;
 #[cfg(original)]
 mod reading;

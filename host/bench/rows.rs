@@ -43,6 +43,8 @@ pub fn all() -> Vec<Row> {
     rows.extend(normalizing());
     #[cfg(original)]
     rows.extend(crate::reading::rows());
+    #[cfg(original)]
+    rows.extend(crate::contacts::rows());
     rows
 }
 

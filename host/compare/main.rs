@@ -3,6 +3,7 @@
 //!   compare record DIR            records those answers
 //! SEED changes the random part; ONLY runs the groups whose name starts with it.
 
+mod contacts;
 mod frequency;
 mod generate;
 mod harness;
@@ -41,6 +42,7 @@ fn compare(mut run: Run, folder: &Path) -> ExitCode {
     text::run(&mut run);
     frequency::run(&mut run);
     reading::run(&mut run);
+    contacts::run(&mut run);
     vectors::run(&mut run, folder);
     #[cfg(original)]
     normalize::run(&mut run);

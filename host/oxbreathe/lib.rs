@@ -11,6 +11,7 @@
 //! assert_eq!((refusal.cause, refusal.place), (Cause::NotUtf8, 1));
 //! ```
 
+pub mod contacts;
 pub mod frequency;
 pub mod normalize;
 pub mod reading;
