@@ -155,11 +155,26 @@ module _ (s other : List ℕ) (limit m room : ℕ) (l : Listed) (el : l ≡ inde
     unfolding Indexed
     up-indexed rows er en = (top, rw en (sym el ∙ e), rw en er)
 
-    module _ (r : Listed) (found : List ℕ) (k : LookedUp s limit other room r found) where
-      pub up-answer : r ≡ searchedAs s other m room
-      unfolding LookedUp
-      up-answer = k .0 ∙ answer
+    -- into numbers that were cleared
+    module _ (was cleared : List ℕ) (z : cleared ≡ replicate (length was) 0) (er : room ≡ length was) (r : Listed) (found : List ℕ) (k : LookedUp s limit other (length cleared) r found) where
+      here-room : length cleared ≡ room
+      here-room = ap length z ∙ length-replicate {A = ℕ} (length was) 0 ∙ sym er
 
-      pub up-found : found ≡ foundAfter s limit other m room
+      up-answer : r ≡ searchedAs s other m room
+      unfolding LookedUp
+      up-answer = rw here-room at (k .0) ∙ answer
+
+      up-found : found ≡ foundAfter s limit other m room
       unfolding LookedUp foundAfter
-      up-found = k .1 ∙ ap (λ (a : Listed). foundBy a s limit other room) answer
+      up-found = rw here-room at (k .1) ∙ ap (λ (a : Listed). foundBy a s limit other room) answer
+
+module _ (s other : List ℕ) (limit m : ℕ) (l : Listed) (el : l ≡ indexedAs s m) (n top : ℕ) (e : l ≡ Marked n top) (was cleared : List ℕ) (z : cleared ≡ replicate (length was) 0)
+    (r : Listed) (found : List ℕ) (k : LookedUp s limit other (length cleared) r found) where
+  pub done-answer : r ≡ searchedAs s other m (length was)
+  done-answer = up-answer s other limit m (length was) l el n top e was cleared z refl r found k
+
+  pub done-found : (w : ℕ) → limit ≡ w → found ≡ foundAfter s w other m (length was)
+  done-found w ew = rw (← ew) (up-found s other limit m (length was) l el n top e was cleared z refl r found k)
+
+pub still-zero : (was now : List ℕ) → now ≡ replicate (length was) 0 → now ≡ replicate (length now) 0
+still-zero was now e = let l : length now ≡ length was = ap length e ∙ length-replicate {A = ℕ} (length was) 0 in rw l e

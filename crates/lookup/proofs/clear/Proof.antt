@@ -5,8 +5,6 @@ use borrow.Author.Needs.{needs}
 use Rattle.lookup.proofs.LookLaws.{Clearing, clear-start, clear-on, clear-end}
 use Rattle.lookup.proofs.clear.Statement.{statement}
 use Rattle.lookup.proofs.clear.Tie as tie
-use Rattle.lookup.proofs.clear.Reads as reads
-use Rattle.lookup.proofs.clear.Lts as lts
 
 abbrev Inv-loop : tie.InvT-loop
 Inv-loop found₀ i₀ found i = (i ≤ length found₀) × (length found ≡ length found₀) × Clearing found₀ found i
@@ -14,35 +12,27 @@ Inv-loop found₀ i₀ found i = (i ≤ length found₀) × (length found ≡ le
 abbrev μ-loop : tie.MeasureT-loop
 μ-loop found₀ i₀ found i = length found₀ - i
 
--- src/lib.rt:86:5
 loop-holds : tie.Need-loop-holds Inv-loop μ-loop
 loop-holds c = (search needs, search needs, search (needs, clear-start))
 
--- src/lib.rt:87:9
 mul-found : tie.Need-mul-found Inv-loop μ-loop
 mul-found c = search needs
 
--- src/lib.rt:87:9
 slice-write-found : tie.Need-slice-write-found Inv-loop μ-loop
 slice-write-found c = search needs
 
--- src/lib.rt:88:9
 add-i : tie.Need-add-i Inv-loop μ-loop
 add-i c = search needs
 
--- src/lib.rt:86:5
 loop-less : tie.Need-loop-less Inv-loop μ-loop
 loop-less c = search needs
 
--- src/lib.rt:86:5
 loop-again : tie.Need-loop-again Inv-loop μ-loop
 loop-again c = (search needs, search needs, search (needs, clear-on))
 
--- src/lib.rt:82:1
 same-length : tie.Need-same-length Inv-loop μ-loop
 same-length c = search needs
 
--- src/lib.rt:82:1
 returns : tie.Need-returns Inv-loop μ-loop
 returns c = search (needs, clear-end)
 

@@ -5,8 +5,6 @@ use borrow.Author.Needs.{needs}
 use Rattle.lookup.proofs.LookLaws.{Matching, match-start, match-inside, match-on, match-end}
 use Rattle.lookup.proofs.match_each.Statement.{statement}
 use Rattle.lookup.proofs.match_each.Tie as tie
-use Rattle.lookup.proofs.match_each.Reads as reads
-use Rattle.lookup.proofs.match_each.Lts as lts
 use Rattle.contacts.proofs.end_at.Reads as end-at-reads
 use Rattle.lookup.proofs.match_at.Reads as match-at-reads
 
@@ -16,43 +14,33 @@ Inv-loop list rows n other k limit found₀ at₀ i₀ found at i = (i ≤ k) ×
 abbrev μ-loop : tie.MeasureT-loop
 μ-loop list rows n other k limit found₀ at₀ i₀ found at i = k - i
 
--- src/lib.rt:75:5
 loop-holds : tie.Need-loop-holds Inv-loop μ-loop
 loop-holds c = (search needs, search needs, search needs, search (needs, match-start))
 
--- src/lib.rt:76:20
 match-at-requires : tie.Need-match-at-requires Inv-loop μ-loop
 match-at-requires c κs = search needs
 
--- src/lib.rt:76:9
 mul-found : tie.Need-mul-found Inv-loop μ-loop
 mul-found c = search needs
 
--- src/lib.rt:76:9
 slice-write-found : tie.Need-slice-write-found Inv-loop μ-loop
 slice-write-found c = search needs
 
--- src/lib.rt:77:9
 end-at-requires : tie.Need-end-at-requires Inv-loop μ-loop
 end-at-requires c κs = search needs
 
--- src/lib.rt:78:9
 add-i : tie.Need-add-i Inv-loop μ-loop
 add-i c = search needs
 
--- src/lib.rt:75:5
 loop-less : tie.Need-loop-less Inv-loop μ-loop
 loop-less c = search needs
 
--- src/lib.rt:75:5
 loop-again : tie.Need-loop-again Inv-loop μ-loop
 loop-again c = (search needs, search (needs, match-inside), search needs, search (needs, match-on))
 
--- src/lib.rt:61:1
 same-length : tie.Need-same-length Inv-loop μ-loop
 same-length c = search needs
 
--- src/lib.rt:61:1
 returns : tie.Need-returns Inv-loop μ-loop
 returns c = search (needs, match-end)
 
