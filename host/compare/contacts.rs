@@ -267,13 +267,12 @@ fn damaged(g: &mut Group) {
         let count = 1 + g.random.place(3);
         let list = written(&some(&mut g.random, count, any));
         for place in 0..list.len() {
-            let mut with = |byte: u8| {
-                let mut changed = list.clone();
-                changed[place] = byte;
-                checks(g, &changed);
-            };
             let byte = list[place];
-            [byte ^ 1, byte ^ 0x80, byte.wrapping_add(1), byte.wrapping_sub(1), 0, 16, 255].map(&mut with);
+            for other in [byte ^ 1, byte ^ 0x80, byte.wrapping_add(1), byte.wrapping_sub(1), 0, 16, 255] {
+                let mut changed = list.clone();
+                changed[place] = other;
+                checks(g, &changed);
+            }
             checks(g, &list[..place]);
             checks(g, &[&list[..place], &list[place + 1..]].concat());
             checks(g, &[&list[..place], &[1], &list[place..]].concat());
@@ -304,7 +303,8 @@ fn texts(g: &mut Group) {
         }
     }
     for services in 0..=255 {
-        checks(g, &written(&[Contact { services, ..alike(&mut g.random, 1) }]));
+        let contact = Contact { services, ..alike(&mut g.random, 1) };
+        checks(g, &written(&[contact]));
     }
     for byte in 0..=255 {
         for place in 0..8 {
@@ -320,24 +320,27 @@ fn texts(g: &mut Group) {
 
 /// A list of as many bytes as may be, of one more, and with a count that is wrong.
 fn limits(g: &mut Group) {
-    let mut contacts = some(&mut g.random, 400_000, alike);
-    let mut list = written(&contacts);
-    while list.len() > LONGEST {
-        contacts.truncate(contacts.len() - 1 - (list.len() - LONGEST) / 64);
-        list = written(&contacts);
-    }
-    let mut id = contacts.last().map_or(0, |c| c.id);
-    while list.len() < LONGEST {
+    // contacts of some 230 bytes, then two whose calls fill what is left
+    let mut left = LONGEST - 5;
+    let mut contacts = Vec::new();
+    let mut add = |contact: Contact| {
+        left -= 16 + contact.texts().iter().map(|text| text.len()).sum::<usize>();
+        contacts.push(contact);
+        left
+    };
+    let mut id = 0;
+    let mut next = |call: usize| {
         id += 1;
-        let room = LONGEST - list.len();
-        let mut last = Contact { time: b"1200".to_vec(), ..alike(&mut g.random, id) };
-        (last.call, last.band, last.mode) = (Vec::new(), Vec::new(), Vec::new());
-        // an entry has 28 bytes and its call; what is left is enough for another, or none
-        let size = if room <= 28 + 255 { room } else { (room - 28).min(28 + 255) };
-        last.call = vec![b'A'; size - 28];
-        contacts.push(last);
-        list = written(&contacts);
+        Contact { call: vec![b'A'; call], time: b"1200".to_vec(), ..alike(&mut g.random, id) }
+    };
+    let filler = |contact: Contact| Contact { band: Vec::new(), mode: Vec::new(), ..contact };
+    let mut room = LONGEST;
+    while room > 600 {
+        room = add(next(200));
     }
+    room = add(filler(next((room - 28) / 2 - 28)));
+    add(filler(next(room - 28)));
+    let mut list = written(&contacts);
     let length = list.len();
     let answer = sys::contacts_check(&list);
     g.same(&list[..0], (length, answer), (LONGEST, marked(&list)));
