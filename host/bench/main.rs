@@ -3,6 +3,8 @@
 //!   bench table COUNTS [time]   the table, from the marks in the file COUNTS, and with times measured here
 
 #[cfg(original)]
+mod contacts;
+#[cfg(original)]
 mod dedupe;
 mod measure;
 #[cfg(original)]

@@ -49,6 +49,8 @@ pub fn all() -> Vec<Row> {
     rows.extend(crate::model::rows());
     #[cfg(original)]
     rows.extend(crate::dedupe::rows());
+    #[cfg(original)]
+    rows.extend(crate::contacts::rows());
     rows
 }
 

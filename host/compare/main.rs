@@ -3,6 +3,7 @@
 //!   compare record DIR            records those answers
 //! SEED changes the random part; ONLY runs the groups whose name starts with it.
 
+mod contacts;
 #[cfg(original)]
 mod dedupe;
 mod frequency;
@@ -47,6 +48,7 @@ fn compare(mut run: Run, folder: &Path) -> ExitCode {
     frequency::run(&mut run);
     reading::run(&mut run);
     writing::run(&mut run);
+    contacts::run(&mut run);
     vectors::run(&mut run, folder);
     #[cfg(original)]
     normalize::run(&mut run);

@@ -44,21 +44,22 @@ pub fn laid(random: &mut Random, record: &AdifRecord, number: u32) -> Laid {
 }
 
 const FREQUENCIES: [&str; 20] = [
-    "14.074", "7.1", " 7.150 ", "0.4745", "1296.2", "5.3585", "-7.1", "-0", "nan", "inf", "-inf", "1e3", "1e14", "7,1", "",
-    " ", "9007199254740993", "0.1357", "7.3000005", "1e-30",
+    "14.074", "7.1", " 7.150 ", "0.4745", "1296.2", "5.3585", "-7.1", "-0", "nan", "inf", "-inf", "1e3", "1e14", "7,1",
+    "", " ", "9007199254740993", "0.1357", "7.3000005", "1e-30",
 ];
 const BANDS: [&str; 14] =
     ["40m", "40M", " 20m ", "70CM", "1.25M", "2190m", "", " ", "\t", "FOO ", "40 m", "23cm\u{3000}", "m", "é"];
 const MODES: [&str; 18] = [
-    "SSB", "usb", " LSB", "FT4", "js8 ", "PSK31", "MFSK", "cw", "CWU", "DATA", "", " ", "JT65B", "FT8", "Olivia 8/250", "é",
-    "40m", "dig",
+    "SSB", "usb", " LSB", "FT4", "js8 ", "PSK31", "MFSK", "cw", "CWU", "DATA", "", " ", "JT65B", "FT8", "Olivia 8/250",
+    "é", "40m", "dig",
 ];
 const ENTITIES: [&str; 14] = [
-    "291", " 291 ", "+7", "-7", "-0", "0", "", " ", "9223372036854775807", "9223372036854775808", "-9223372036854775808",
-    "-9223372036854775809", "7x", "١",
+    "291", " 291 ", "+7", "-7", "-0", "0", "", " ", "9223372036854775807", "9223372036854775808",
+    "-9223372036854775808", "-9223372036854775809", "7x", "١",
 ];
 const EXTRA: [&str; 12] = [
-    "NAME", "COMMENT", "APP_X_Y", "A", "ZZZ", "BAND_R", "CALLSIGN", "MY_GRIDSQUARE", "QSO_DATE_OFF", "", "NOTES_INTL", "É",
+    "NAME", "COMMENT", "APP_X_Y", "A", "ZZZ", "BAND_R", "CALLSIGN", "MY_GRIDSQUARE", "QSO_DATE_OFF", "", "NOTES_INTL",
+    "É",
 ];
 
 fn value(random: &mut Random, column: &str) -> String {
@@ -121,9 +122,8 @@ fn name_of(place: Place) -> String {
 
 pub fn told(text: &[u8], table: &[u32], qso: &sys::Qso) -> Qso {
     let column = |k: usize| spelled(text, qso.columns[k]);
-    let part = |place: u32, length: u32| {
-        std::str::from_utf8(&text[place as usize..][..length as usize]).unwrap().to_string()
-    };
+    let part =
+        |place: u32, length: u32| std::str::from_utf8(&text[place as usize..][..length as usize]).unwrap().to_string();
     let rows = table.chunks_exact(reading::ROW);
     let extra = rows.filter(|row| sys::column(part(row[1], row[2]).as_bytes()) == 13);
     Qso {
@@ -158,16 +158,21 @@ fn mapped(record: &AdifRecord, refusal: u32) -> Qso {
 
 /// Whether a frequency of the record is outside the exact window, by the library's own call, which has groups of its own.
 fn inexact(record: &AdifRecord) -> bool {
-    ["FREQ", "FREQ_RX"].iter().any(|name| record.get(*name).is_some_and(|text| sys::mhz_to_hz(text.as_bytes()).refusal == 15))
+    ["FREQ", "FREQ_RX"]
+        .iter()
+        .any(|name| record.get(*name).is_some_and(|text| sys::mhz_to_hz(text.as_bytes()).refusal == 15))
 }
 
 // The groups.
 
 fn columns(g: &mut Group) {
     for (number, name) in COLUMNS.iter().enumerate() {
-        for other in [name.to_string(), name.to_ascii_lowercase(), name[1..].to_string(), format!("{name}S"), format!(" {name}")] {
+        for other in
+            [name.to_string(), name.to_ascii_lowercase(), name[1..].to_string(), format!("{name}S"), format!(" {name}")]
+        {
             let is = other.eq_ignore_ascii_case(name);
-            let expected = if is { number } else { COLUMNS.iter().position(|c| c.eq_ignore_ascii_case(&other)).unwrap_or(13) };
+            let expected =
+                if is { number } else { COLUMNS.iter().position(|c| c.eq_ignore_ascii_case(&other)).unwrap_or(13) };
             g.same(other.as_str(), sys::column(other.as_bytes()) as usize, expected);
         }
     }
@@ -191,7 +196,11 @@ fn record_same(g: &mut Group, record: &AdifRecord) {
     let rows = &table[first * 5..][..count * 5];
     let theirs = mapped(record, r.refusal);
     let shown = write_record(record);
-    g.same(shown.as_str(), (r.refusal, told(&text, rows, &r.qso)), (if inexact(record) { 15 } else { 0 }, theirs.clone()));
+    g.same(
+        shown.as_str(),
+        (r.refusal, told(&text, rows, &r.qso)),
+        (if inexact(record) { 15 } else { 0 }, theirs.clone()),
+    );
     let mut normal = theirs;
     normal.normalize();
     let n = sys::normalize_qso(&text, r.qso);
@@ -269,10 +278,13 @@ fn texts(g: &mut Group) {
 fn is_record(text: &[u8], table: &[u32], first: usize, count: usize) -> bool {
     let rows: Vec<&[u32]> = table.chunks_exact(5).collect();
     let Some(rows) = first.checked_add(count).and_then(|end| rows.get(first..end)) else { return false };
-    let part = |place: u32, length: u32| text.get(place as usize..place as usize + length as usize).map(std::str::from_utf8);
+    let part =
+        |place: u32, length: u32| text.get(place as usize..place as usize + length as usize).map(std::str::from_utf8);
     let sound = |row: &&[u32]| matches!((part(row[1], row[2]), part(row[3], row[4])), (Some(Ok(_)), Some(Ok(_))));
     let name = |row: &[u32]| text[row[1] as usize..][..row[2] as usize].to_ascii_uppercase();
-    rows.iter().all(sound) && rows.iter().all(|row| row[0] > 0 && row[0] == rows[0][0]) && rows.windows(2).all(|w| name(w[0]) < name(w[1]))
+    rows.iter().all(sound)
+        && rows.iter().all(|row| row[0] > 0 && row[0] == rows[0][0])
+        && rows.windows(2).all(|w| name(w[0]) < name(w[1]))
 }
 
 fn rows(g: &mut Group) {
@@ -283,7 +295,15 @@ fn rows(g: &mut Group) {
         match g.random.below(5) {
             0 if !table.is_empty() => {
                 let i = g.random.place(table.len());
-                table[i] = g.random.pick(&[0, 1, 2, u32::MAX, table[i].wrapping_add(1), table[i].wrapping_sub(1), text.len() as u32]);
+                table[i] = g.random.pick(&[
+                    0,
+                    1,
+                    2,
+                    u32::MAX,
+                    table[i].wrapping_add(1),
+                    table[i].wrapping_sub(1),
+                    text.len() as u32,
+                ]);
             }
             1 if count > 1 => {
                 let i = g.random.place(count - 1) * 5;
@@ -295,7 +315,11 @@ fn rows(g: &mut Group) {
         }
         let r = sys::record_to_qso(&text, &table, first, count);
         let good = is_record(&text, &table, first, count);
-        g.same((&text[..], first as u64, count as u64), sys::record_to_normal_qso(&text, &table, first, count).refusal, r.refusal);
+        g.same(
+            (&text[..], first as u64, count as u64),
+            sys::record_to_normal_qso(&text, &table, first, count).refusal,
+            r.refusal,
+        );
         let refused = r == QsoAnswer { refusal: 11, ..QsoAnswer::default() };
         g.same((&text[..], first as u64, count as u64), (r.refusal == 11, refused), (!good, !good));
     }
@@ -312,12 +336,15 @@ fn places(g: &mut Group) {
             if g.random.below(3) > 0 {
                 continue;
             }
-            let small = |random: &mut Random| random.pick(&[0, 1, 2, 5, 17, 18, 19, 20, 30, 31, 32, 39, 40, 41, u32::MAX]);
+            let small =
+                |random: &mut Random| random.pick(&[0, 1, 2, 5, 17, 18, 19, 20, 30, 31, 32, 39, 40, 41, u32::MAX]);
             let p = Place { kind: g.random.below(6) as u32, start: small(&mut g.random), len: small(&mut g.random) };
             qso.columns[k] = p;
             good &= match p.kind {
                 0 => true,
-                1 | 2 => text.get(p.start as usize..p.start as usize + p.len as usize).is_some_and(|t| std::str::from_utf8(t).is_ok()),
+                1 | 2 => text
+                    .get(p.start as usize..p.start as usize + p.len as usize)
+                    .is_some_and(|t| std::str::from_utf8(t).is_ok()),
                 3 => p.start < 19 && !matches!(k, 4 | 5),
                 4 => p.start < 31,
                 _ => false,

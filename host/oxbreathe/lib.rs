@@ -12,6 +12,7 @@
 //! ```
 
 pub mod contact;
+pub mod contacts;
 pub mod dedupe;
 pub mod frequency;
 pub mod normalize;

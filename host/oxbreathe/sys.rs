@@ -190,6 +190,26 @@ pub struct QsoAnswer {
     pub qso: Qso,
 }
 
+/// A contact list's mark, or why it is none.
+#[repr(C)]
+#[derive(Clone, Copy, Debug, Default, PartialEq, Eq)]
+pub struct MarkAnswer {
+    pub refusal: u32,
+    pub contacts: usize,
+    pub largest: u64,
+}
+
+/// Whether a plan with a mark is fresh against a list.
+#[repr(C)]
+#[derive(Clone, Copy, Debug, Default, PartialEq, Eq)]
+pub struct FreshAnswer {
+    pub refusal: u32,
+    pub fresh: bool,
+}
+
+/// What the contact index keeps of a contact.
+pub type Record = [u32; 14];
+
 mod c {
     use super::*;
 
@@ -309,6 +329,20 @@ mod c {
             count: usize,
         ) -> QsoAnswer;
         pub fn ox_normalize_qso(text: *const u8, length: usize, qso: Qso) -> QsoAnswer;
+        pub fn ox_contacts_check(list: *const u8, length: usize) -> MarkAnswer;
+        pub fn ox_contacts_fresh(contacts: usize, largest: u64, list: *const u8, length: usize) -> FreshAnswer;
+        pub fn ox_contacts_index(list: *const u8, length: usize, index: *mut Record, records: usize) -> MarkAnswer;
+        pub fn ox_contacts_search(
+            list: *const u8,
+            length: usize,
+            other: *const u8,
+            other_length: usize,
+            window: i64,
+            index: *mut Record,
+            records: usize,
+            found: *mut u64,
+            numbers: usize,
+        ) -> MarkAnswer;
     }
 }
 
@@ -457,4 +491,21 @@ pub fn record_to_normal_qso(text: &[u8], table: &[u32], first: usize, count: usi
 }
 pub fn normalize_qso(text: &[u8], qso: Qso) -> QsoAnswer {
     unsafe { c::ox_normalize_qso(text.as_ptr(), text.len(), qso) }
+}
+pub fn contacts_check(list: &[u8]) -> MarkAnswer {
+    unsafe { c::ox_contacts_check(list.as_ptr(), list.len()) }
+}
+pub fn contacts_fresh(contacts: usize, largest: u64, list: &[u8]) -> FreshAnswer {
+    unsafe { c::ox_contacts_fresh(contacts, largest, list.as_ptr(), list.len()) }
+}
+pub fn contacts_index(list: &[u8], index: &mut [Record]) -> MarkAnswer {
+    unsafe { c::ox_contacts_index(list.as_ptr(), list.len(), index.as_mut_ptr(), index.len()) }
+}
+pub fn contacts_search(list: &[u8], other: &[u8], window: i64, index: &mut [Record], found: &mut [u64]) -> MarkAnswer {
+    let (records, numbers) = (index.len(), found.len());
+    let (index, found) = (index.as_mut_ptr(), found.as_mut_ptr());
+    let (other, other_length) = (other.as_ptr(), other.len());
+    unsafe {
+        c::ox_contacts_search(list.as_ptr(), list.len(), other, other_length, window, index, records, found, numbers)
+    }
 }

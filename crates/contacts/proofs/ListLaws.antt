@@ -110,7 +110,7 @@ module _ (s : List ℕ) (count top : ℕ) (l : Listed) (el : l ≡ listedAs s) w
     fresh-both c d = rw (← el, e, eq-eqb count n c, eq-eqb top m d) refl
 
 -- ---- what an accepted list is known to have
-marked-refused : {P : Type 0} (n top : ℕ) (why : Refusal) → Refused why ≡ Marked n top → P
+pub marked-refused : {P : Type 0} (n top : ℕ) (why : Refusal) → Refused why ≡ Marked n top → P
 marked-refused n top why e = absurd (let z : _≡_ {A = ℕ} 0 1 = cc in omega arith)
 
 module _ (s : List ℕ) (n m top : ℕ) where

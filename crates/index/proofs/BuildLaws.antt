@@ -6,13 +6,15 @@ use native.Mathlib.Nat.{zero-add}
 use native.Mathlib.Omega.{arith}
 use lib.ListN.{length, getD, take, drop, replicate, length-replicate}
 use lib.Seq.{sets, sets-eq}
-use borrow.Author.Tests.{lt-ltb, le-ltb}
+use lib.Dec.{ltb}
+use borrow.Author.Tests.{lt-ltb, le-ltb, ltb-false}
+use Rattle.text.proofs.BoolLaws.{cases}
 use Rattle.refusals.specs.declared.Refusal.{Refusal}
 use Rattle.refusals.specs.declared.Refusal.the-variants.{ShortTable}
 use Rattle.contacts.specs.Lists.{countOf, listedAs, Few}
 use Rattle.contacts.specs.declared.Listed.{Listed}
 use Rattle.contacts.specs.declared.Listed.the-variants.{Marked, Refused}
-use Rattle.contacts.proofs.ListLaws.{accepted}
+use Rattle.contacts.proofs.ListLaws.{accepted, marked-refused}
 use Rattle.index.specs.Rows.{Row, rowsFrom, noRow}
 use Rattle.index.specs.Index.{bareOf, indexOf, chained, indexedBy, indexedAs, indexBy, indexAfter, Checked}
 
@@ -21,7 +23,7 @@ unfolding rowsFrom
 length-rows s zero at = refl
 length-rows s (suc k) at = ap suc (length-rows s k _)
 
-drop-replicate : {A : Type 0} (n m : ℕ) (x : A) → drop n (replicate m x) ≡ replicate (m - n) x
+pub drop-replicate : {A : Type 0} (n m : ℕ) (x : A) → drop n (replicate m x) ≡ replicate (m - n) x
 drop-replicate zero m x = let z : m - 0 ≡ m = omega arith in rw z refl
 drop-replicate (suc n) zero x = let z : 0 - suc n ≡ 0 = omega arith in rw z refl
 drop-replicate (suc n) (suc m) x = let z : suc m - suc n ≡ m - n = omega arith in rw z (drop-replicate n m x)
@@ -80,3 +82,27 @@ module _ (s : List ℕ) (m : ℕ) (l : Listed) (el : l ≡ listedAs s) where
           let b : filled ≡ w ++ replicate (m - n) noRow =
           ef ∙ sets-eq w rows 0 (omega arith) ∙ ap (λ (r : List Row). w ++ r) (rw (k, z) (drop-replicate n m noRow)) in
           rw (← build-done, ← c, ← b) ec
+
+-- ---- what a caller knows of an index that was built
+indexed-by : (m : ℕ) (l : Listed) (n top : ℕ) → indexedBy m l ≡ Marked n top → (l ≡ Marked n top) × (n ≤ m)
+unfolding indexedBy
+indexed-by m (Refused why) n top e = marked-refused n top why e
+indexed-by m (Marked k t) n top e =
+    cases (ltb m k)
+    (λ u. marked-refused n top ShortTable (rw u at e))
+    (λ u. let z : Marked k t ≡ Marked n top = rw u at e in
+    let y : k ≡ n = cc in
+    (z, omega (arith, ltb-false m k u)))
+
+module _ (s : List ℕ) (m n top : ℕ) (e : indexedAs s m ≡ Marked n top) where
+  pub indexed-listed : listedAs s ≡ Marked n top
+  unfolding indexedAs
+  indexed-listed = indexed-by m (listedAs s) n top e .0
+
+  pub indexed-fits : n ≤ m
+  unfolding indexedAs
+  indexed-fits = indexed-by m (listedAs s) n top e .1
+
+  pub indexed-is : (rows : List Row) → rows ≡ indexAfter s m → rows ≡ indexOf s m
+  unfolding indexAfter indexBy
+  indexed-is rows q = rw e at q
