@@ -6,7 +6,7 @@ use lib.Dec.{ltb}
 use Rattle.text.specs.Pick.{pick}
 use Rattle.text.specs.Utf8.{validUpTo}
 use Rattle.refusals.specs.declared.Refusal.{Refusal}
-use Rattle.refusals.specs.declared.Refusal.the-variants.{TooLong, NotUtf8, UnterminatedTag, MissingLength, BadLength, TruncatedValue, NonUtf8, ManyNames, ManyRecords, FewRows, ShortOutput, FrequencyTooHigh, InexactFrequency}
+use Rattle.refusals.specs.declared.Refusal.the-variants.{TooLong, NotUtf8, UnterminatedTag, MissingLength, BadLength, TruncatedValue, NonUtf8, ManyNames, ManyRecords, FewRows, BadRow, BadName, ShortOutput, FrequencyTooHigh, InexactFrequency}
 use Rattle.refusals.specs.declared.Verdict.{Verdict}
 use Rattle.refusals.specs.declared.Verdict.the-variants.{Accepted, Refused}
 
@@ -21,6 +21,8 @@ numberOf (NonUtf8 name len) = 7
 numberOf ManyNames = 8
 numberOf ManyRecords = 9
 numberOf FewRows = 10
+numberOf BadRow = 11
+numberOf BadName = 12
 numberOf ShortOutput = 13
 numberOf FrequencyTooHigh = 14
 numberOf InexactFrequency = 15
@@ -36,6 +38,8 @@ placeOf (NonUtf8 name len) = 0
 placeOf ManyNames = 0
 placeOf ManyRecords = 0
 placeOf FewRows = 0
+placeOf BadRow = 0
+placeOf BadName = 0
 placeOf ShortOutput = 0
 placeOf FrequencyTooHigh = 0
 placeOf InexactFrequency = 0
@@ -52,6 +56,8 @@ nameOf (NonUtf8 name len) = name
 nameOf ManyNames = 0
 nameOf ManyRecords = 0
 nameOf FewRows = 0
+nameOf BadRow = 0
+nameOf BadName = 0
 nameOf ShortOutput = 0
 nameOf FrequencyTooHigh = 0
 nameOf InexactFrequency = 0
@@ -67,6 +73,8 @@ nameLengthOf (NonUtf8 name len) = len
 nameLengthOf ManyNames = 0
 nameLengthOf ManyRecords = 0
 nameLengthOf FewRows = 0
+nameLengthOf BadRow = 0
+nameLengthOf BadName = 0
 nameLengthOf ShortOutput = 0
 nameLengthOf FrequencyTooHigh = 0
 nameLengthOf InexactFrequency = 0
@@ -83,6 +91,8 @@ wantedOf (NonUtf8 name len) = 0
 wantedOf ManyNames = 0
 wantedOf ManyRecords = 0
 wantedOf FewRows = 0
+wantedOf BadRow = 0
+wantedOf BadName = 0
 wantedOf ShortOutput = 0
 wantedOf FrequencyTooHigh = 0
 wantedOf InexactFrequency = 0
@@ -98,6 +108,8 @@ leftOf (NonUtf8 name len) = 0
 leftOf ManyNames = 0
 leftOf ManyRecords = 0
 leftOf FewRows = 0
+leftOf BadRow = 0
+leftOf BadName = 0
 leftOf ShortOutput = 0
 leftOf FrequencyTooHigh = 0
 leftOf InexactFrequency = 0

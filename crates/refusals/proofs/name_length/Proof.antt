@@ -42,6 +42,12 @@ enum-told-8 c = search needs
 enum-told-9 : tie.Need-enum-told-9
 enum-told-9 c = search needs
 
+enum-told-10 : tie.Need-enum-told-10
+enum-told-10 c = search needs
+
+enum-told-11 : tie.Need-enum-told-11
+enum-told-11 c = search needs
+
 returns : tie.Need-returns
 returns c = search needs
 
@@ -81,6 +87,12 @@ returns-12 c = search needs
 returns-13 : tie.Need-returns-13
 returns-13 c = search needs
 
+returns-14 : tie.Need-returns-14
+returns-14 c = search needs
+
+returns-15 : tie.Need-returns-15
+returns-15 c = search needs
+
 pub name-length-spec : {M : Type 1} → statement M
 name-length-spec =
     tie.close
@@ -98,6 +110,8 @@ name-length-spec =
     enum-told-7
     enum-told-8
     enum-told-9
+    enum-told-10
+    enum-told-11
     returns
     returns-2
     returns-3
@@ -110,4 +124,6 @@ name-length-spec =
     returns-10
     returns-11
     returns-12
-    returns-13)
+    returns-13
+    returns-14
+    returns-15)

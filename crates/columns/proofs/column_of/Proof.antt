@@ -1,0 +1,103 @@
+use Rattle.columns.proofs.ColumnLaws.{call, qso-date, time-on, band, mode, submode, freq, later}
+use borrow.Author.Needs.{needs}
+use Rattle.columns.proofs.column_of.Statement.{statement}
+use Rattle.columns.proofs.column_of.Tie as tie
+use Rattle.columns.proofs.later_column.Reads as later-column-reads
+use Rattle.letters.proofs.same_raised.Reads as same-raised-reads
+
+slice-aggregate-same-raised : tie.Need-slice-aggregate-same-raised
+slice-aggregate-same-raised c = search needs
+
+same-raised-requires : tie.Need-same-raised-requires
+same-raised-requires c κs = search needs
+
+returns : tie.Need-returns
+returns c = search call
+
+slice-aggregate-same-raised-2 : tie.Need-slice-aggregate-same-raised-2
+slice-aggregate-same-raised-2 c = search needs
+
+same-raised-requires-2 : tie.Need-same-raised-requires-2
+same-raised-requires-2 c κs = search needs
+
+returns-2 : tie.Need-returns-2
+returns-2 c = search qso-date
+
+slice-aggregate-same-raised-3 : tie.Need-slice-aggregate-same-raised-3
+slice-aggregate-same-raised-3 c = search needs
+
+same-raised-requires-3 : tie.Need-same-raised-requires-3
+same-raised-requires-3 c κs = search needs
+
+returns-3 : tie.Need-returns-3
+returns-3 c = search time-on
+
+slice-aggregate-same-raised-4 : tie.Need-slice-aggregate-same-raised-4
+slice-aggregate-same-raised-4 c = search needs
+
+same-raised-requires-4 : tie.Need-same-raised-requires-4
+same-raised-requires-4 c κs = search needs
+
+returns-4 : tie.Need-returns-4
+returns-4 c = search band
+
+slice-aggregate-same-raised-5 : tie.Need-slice-aggregate-same-raised-5
+slice-aggregate-same-raised-5 c = search needs
+
+same-raised-requires-5 : tie.Need-same-raised-requires-5
+same-raised-requires-5 c κs = search needs
+
+returns-5 : tie.Need-returns-5
+returns-5 c = search mode
+
+slice-aggregate-same-raised-6 : tie.Need-slice-aggregate-same-raised-6
+slice-aggregate-same-raised-6 c = search needs
+
+same-raised-requires-6 : tie.Need-same-raised-requires-6
+same-raised-requires-6 c κs = search needs
+
+returns-6 : tie.Need-returns-6
+returns-6 c = search submode
+
+slice-aggregate-same-raised-7 : tie.Need-slice-aggregate-same-raised-7
+slice-aggregate-same-raised-7 c = search needs
+
+same-raised-requires-7 : tie.Need-same-raised-requires-7
+same-raised-requires-7 c κs = search needs
+
+returns-7 : tie.Need-returns-7
+returns-7 c = search freq
+
+later-column-requires : tie.Need-later-column-requires
+later-column-requires c κs = search needs
+
+returns-8 : tie.Need-returns-8
+returns-8 c = search later
+
+pub column-of-spec : {M : Type 1} → statement M
+column-of-spec =
+    tie.close
+    (tie.spec
+    slice-aggregate-same-raised
+    same-raised-requires
+    returns
+    slice-aggregate-same-raised-2
+    same-raised-requires-2
+    returns-2
+    slice-aggregate-same-raised-3
+    same-raised-requires-3
+    returns-3
+    slice-aggregate-same-raised-4
+    same-raised-requires-4
+    returns-4
+    slice-aggregate-same-raised-5
+    same-raised-requires-5
+    returns-5
+    slice-aggregate-same-raised-6
+    same-raised-requires-6
+    returns-6
+    slice-aggregate-same-raised-7
+    same-raised-requires-7
+    returns-7
+    later-column-requires
+    returns-8)
