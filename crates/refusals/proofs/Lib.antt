@@ -1,3 +1,2 @@
-pub mod TruncatedLaws
 pub mod TextLaws
 pub mod Determined
