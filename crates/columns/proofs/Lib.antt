@@ -1,2 +1,3 @@
 pub mod ColumnLaws
+pub mod LaidLaws
 pub mod Determined

@@ -24,13 +24,25 @@ alike-requires-3 : tie.Need-alike-requires-3
 alike-requires-3 c κs = search needs
 
 returns : tie.Need-returns
-returns c = search file-band
+returns c =
+    file-band _ _ _ _ _ _ (c .before .before .before .before .before .before .before .«looked-at» .ensures) (c .before .before .before .before .before .before .alike .ensures) _ _ (c .before .before .before .before .before .if1 .taken)
+    (c .before .before .before .before .«looked-at2» .ensures)
+    (c .before .before .before .alike2 .ensures)
+    _
+    _
+    (c .before .before .if2 .taken)
+    (c .before .«looked-at3» .ensures)
+    (c .alike3 .ensures)
 
 returns-2 : tie.Need-returns-2
-returns-2 c = search file-mode
+returns-2 c =
+    file-mode _ _ _ _ _ _ (c .before .before .before .before .before .«looked-at» .ensures) (c .before .before .before .before .alike .ensures) _ _ (c .before .before .before .if1 .taken)
+    (c .before .before .«looked-at2» .ensures)
+    (c .before .alike2 .ensures)
+    (c .if2 .left)
 
 returns-3 : tie.Need-returns-3
-returns-3 c = search file-call
+returns-3 c = file-call _ _ _ _ _ _ (c .before .before .«looked-at» .ensures) (c .before .alike .ensures) (c .if1 .left)
 
 pub in-file-spec : {M : Type 1} → statement M
 in-file-spec =

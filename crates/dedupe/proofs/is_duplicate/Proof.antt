@@ -12,7 +12,7 @@ within-window-requires : tie.Need-within-window-requires
 within-window-requires c κs = search needs
 
 returns : tie.Need-returns
-returns c = search same-key
+returns c = same-key _ _ _ _ _ _ _ _ (c .before .before .«same-natural-key» .ensures) _ (c .before .before .before .before .before .fits .window) (c .before .if1 .taken) (c .«within-window» .ensures)
 
 returns-2 : tie.Need-returns-2
 returns-2 c = search other-key

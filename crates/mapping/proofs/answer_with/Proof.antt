@@ -1,8 +1,7 @@
+use Rattle.mapping.proofs.AnswerLaws.{inexact, exact}
 use borrow.Author.Needs.{needs}
 use Rattle.mapping.proofs.answer_with.Statement.{statement}
 use Rattle.mapping.proofs.answer_with.Tie as tie
-use Rattle.mapping.proofs.answer_with.Reads as reads
-use Rattle.mapping.proofs.answer_with.Lts as lts
 use Rattle.mapping.proofs.frequency_of.Reads as frequency-of-reads
 use Rattle.mapping.proofs.is_outside.Reads as is-outside-reads
 use Rattle.mapping.proofs.qso_with.Reads as qso-with-reads
@@ -11,57 +10,44 @@ use Rattle.model.proofs.no_frequency.Reads as no-frequency-reads
 use Rattle.model.proofs.refused.Reads as refused-reads
 use Rattle.text.proofs.any.Reads as any-reads
 
--- src/lib.rt:107:18
 is-outside-requires : tie.Need-is-outside-requires
 is-outside-requires c κs = search needs
 
--- src/lib.rt:107:36
 is-outside-requires-2 : tie.Need-is-outside-requires-2
 is-outside-requires-2 c κs = search needs
 
--- src/lib.rt:107:8
 any-requires : tie.Need-any-requires
 any-requires c κs = search needs
 
--- src/lib.rt:111:13
 no-frequency-requires : tie.Need-no-frequency-requires
 no-frequency-requires c κs = search needs
 
--- src/lib.rt:112:13
 no-frequency-requires-2 : tie.Need-no-frequency-requires-2
 no-frequency-requires-2 c κs = search needs
 
--- src/lib.rt:108:13
 qso-with-requires : tie.Need-qso-with-requires
 qso-with-requires c κs = search needs
 
--- src/lib.rt:114:9
 refused-requires : tie.Need-refused-requires
 refused-requires c κs = search needs
 
--- src/lib.rt:114:9
 returns : tie.Need-returns
-returns c = ?
+returns c = search inexact
 
--- src/lib.rt:119:9
 frequency-of-requires : tie.Need-frequency-of-requires
 frequency-of-requires c κs = search needs
 
--- src/lib.rt:120:9
 frequency-of-requires-2 : tie.Need-frequency-of-requires-2
 frequency-of-requires-2 c κs = search needs
 
--- src/lib.rt:116:21
 qso-with-requires-2 : tie.Need-qso-with-requires-2
 qso-with-requires-2 c κs = search needs
 
--- src/lib.rt:116:5
 accepted-requires : tie.Need-accepted-requires
 accepted-requires c κs = search needs
 
--- src/lib.rt:104:1
 returns-2 : tie.Need-returns-2
-returns-2 c = ?
+returns-2 c = search exact
 
 pub answer-with-spec : {M : Type 1} → statement M
 answer-with-spec =

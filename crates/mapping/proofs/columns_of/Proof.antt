@@ -1,7 +1,13 @@
+use Rattle.mapping.proofs.RowLaws.{no-rows, row-extra, row-column, a-column-below, all-rows}
+use borrow.Author.Needs.{needs}
+use native.Mathlib.Omega.{arith}
+use mathlib.Core.Path.{_≡_}
+use Prim.Native.Nat.{_≤_, _+_, _-_}
+use lib.ListN.{length}
+use Rattle.writer.specs.Rows.{rowsFrom}
+use Rattle.mapping.specs.Mapping.{columnsOf}
 use Rattle.mapping.proofs.columns_of.Statement.{statement}
 use Rattle.mapping.proofs.columns_of.Tie as tie
-use Rattle.mapping.proofs.columns_of.Reads as reads
-use Rattle.mapping.proofs.columns_of.Lts as lts
 use Rattle.columns.proofs.column_of.Reads as column-of-reads
 use Rattle.mapping.proofs.value_place.Reads as value-place-reads
 use Rattle.rowcheck.proofs.name_of.Reads as name-of-reads
@@ -9,82 +15,64 @@ use Rattle.tables.proofs.places.absent.Reads as absent-reads
 use Rattle.writer.proofs.row_at.Reads as row-at-reads
 
 abbrev Inv-loop : tie.InvT-loop
-Inv-loop text table first count columns₀ i₀ columns i = ?
+Inv-loop text table first count columns₀ i₀ columns i = (i ≤ count) × (length columns ≡ 13) × (columns ≡ columnsOf text (rowsFrom table (first + i) (count - i)))
 
 abbrev μ-loop : tie.MeasureT-loop
-μ-loop text table first count columns₀ i₀ columns i = ?
+μ-loop text table first count columns₀ i₀ columns i = i
 
--- src/lib.rt:35:24
 absent-requires : tie.Need-absent-requires Inv-loop μ-loop
-absent-requires c κs = ?
+absent-requires c κs = search needs
 
--- src/lib.rt:37:5
 loop-holds : tie.Need-loop-holds Inv-loop μ-loop
-loop-holds c = ?
+loop-holds c = (omega arith, search needs, search no-rows)
 
--- src/lib.rt:38:9
 sub-i : tie.Need-sub-i Inv-loop μ-loop
-sub-i c = ?
+sub-i c = search needs
 
--- src/lib.rt:39:41
 add-row-at : tie.Need-add-row-at Inv-loop μ-loop
-add-row-at c = ?
+add-row-at c = search needs
 
--- src/lib.rt:39:13
 row-at-requires : tie.Need-row-at-requires Inv-loop μ-loop
-row-at-requires c κs = ?
+row-at-requires c κs = search needs
 
--- src/lib.rt:40:40
 name-of-requires : tie.Need-name-of-requires Inv-loop μ-loop
-name-of-requires c κs = ?
+name-of-requires c κs = search needs
 
--- src/lib.rt:40:13
 column-of-requires : tie.Need-column-of-requires Inv-loop μ-loop
-column-of-requires c κs = ?
+column-of-requires c κs = search needs
 
--- src/lib.rt:41:23
 enum-known-found : tie.Need-enum-known-found Inv-loop μ-loop
-enum-known-found c = ?
+enum-known-found c = search needs
 
--- src/lib.rt:42:13
 enum-told : tie.Need-enum-told Inv-loop μ-loop
-enum-told c = ?
+enum-told c = search needs
 
--- src/lib.rt:37:5
 loop-less : tie.Need-loop-less Inv-loop μ-loop
-loop-less c = ?
+loop-less c = search needs
 
--- src/lib.rt:37:5
 loop-again : tie.Need-loop-again Inv-loop μ-loop
-loop-again c = ?
+loop-again c = (omega arith, search needs, search row-extra)
 
--- src/lib.rt:44:31
 value-place-requires : tie.Need-value-place-requires Inv-loop μ-loop
-value-place-requires c κs = ?
+value-place-requires c κs = search needs
 
--- src/lib.rt:44:17
 cast-columns : tie.Need-cast-columns Inv-loop μ-loop
-cast-columns c = ?
+cast-columns c = search needs
 
--- src/lib.rt:44:9
 mul-columns : tie.Need-mul-columns Inv-loop μ-loop
-mul-columns c = ?
+mul-columns c = search needs
 
--- src/lib.rt:44:9
 array-set-from-columns : tie.Need-array-set-from-columns Inv-loop μ-loop
-array-set-from-columns c = ?
+array-set-from-columns c = search a-column-below
 
--- src/lib.rt:37:5
 loop-less-2 : tie.Need-loop-less-2 Inv-loop μ-loop
-loop-less-2 c = ?
+loop-less-2 c = search needs
 
--- src/lib.rt:37:5
 loop-again-2 : tie.Need-loop-again-2 Inv-loop μ-loop
-loop-again-2 c = ?
+loop-again-2 c = (omega arith, search needs, search row-column)
 
--- src/lib.rt:31:1
 returns : tie.Need-returns Inv-loop μ-loop
-returns c = ?
+returns c = search all-rows
 
 pub columns-of-spec : {M : Type 1} → statement M
 columns-of-spec =

@@ -1,68 +1,60 @@
+use Rattle.mapping.proofs.RowLaws.{no-row, bad-first, good-first, bad-next, good-next, whole-record}
+use borrow.Author.Needs.{needs}
+use native.Mathlib.Omega.{arith}
+use mathlib.Core.Path.{_≡_}
+use Prim.Native.Nat.{_≤_, _+_, _-_}
+use Rattle.writer.specs.Rows.{rowsFrom}
+use Rattle.mapping.specs.Mapping.{goesOn, isRecord}
 use Rattle.mapping.proofs.is_record.Statement.{statement}
 use Rattle.mapping.proofs.is_record.Tie as tie
-use Rattle.mapping.proofs.is_record.Reads as reads
-use Rattle.mapping.proofs.is_record.Lts as lts
 use Rattle.mapping.proofs.continues_record.Reads as continues-record-reads
 use Rattle.mapping.proofs.starts_record.Reads as starts-record-reads
 use Rattle.writer.proofs.row_at.Reads as row-at-reads
 
 abbrev Inv-loop : tie.InvT-loop
-Inv-loop text table first count p₀ i₀ p i = ?
+Inv-loop text table first count p₀ i₀ p i = (1 ≤ i) × (i ≤ count) × (goesOn text p (rowsFrom table (first + i) (count - i)) ≡ isRecord text (rowsFrom table first count))
 
 abbrev μ-loop : tie.MeasureT-loop
-μ-loop text table first count p₀ i₀ p i = ?
+μ-loop text table first count p₀ i₀ p i = count - i
 
--- src/lib.rt:173:9
 returns : tie.Need-returns Inv-loop μ-loop
-returns c = ?
+returns c = search no-row
 
--- src/lib.rt:175:9
 row-at-requires : tie.Need-row-at-requires Inv-loop μ-loop
-row-at-requires c κs = ?
+row-at-requires c κs = search needs
 
--- src/lib.rt:176:9
 starts-record-requires : tie.Need-starts-record-requires Inv-loop μ-loop
-starts-record-requires c κs = ?
+starts-record-requires c κs = search needs
 
--- src/lib.rt:177:9
 returns-2 : tie.Need-returns-2 Inv-loop μ-loop
-returns-2 c = ?
+returns-2 c = search bad-first
 
--- src/lib.rt:180:5
 loop-holds : tie.Need-loop-holds Inv-loop μ-loop
-loop-holds c = ?
+loop-holds c = (omega arith, omega arith, search good-first)
 
--- src/lib.rt:181:41
 add-row-at : tie.Need-add-row-at Inv-loop μ-loop
-add-row-at c = ?
+add-row-at c = search needs
 
--- src/lib.rt:181:13
 row-at-requires-2 : tie.Need-row-at-requires-2 Inv-loop μ-loop
-row-at-requires-2 c κs = ?
+row-at-requires-2 c κs = search needs
 
--- src/lib.rt:182:13
 continues-record-requires : tie.Need-continues-record-requires Inv-loop μ-loop
-continues-record-requires c κs = ?
+continues-record-requires c κs = search needs
 
--- src/lib.rt:183:13
 returns-3 : tie.Need-returns-3 Inv-loop μ-loop
-returns-3 c = ?
+returns-3 c = search bad-next
 
--- src/lib.rt:186:9
 add-i : tie.Need-add-i Inv-loop μ-loop
-add-i c = ?
+add-i c = search needs
 
--- src/lib.rt:180:5
 loop-less : tie.Need-loop-less Inv-loop μ-loop
-loop-less c = ?
+loop-less c = search needs
 
--- src/lib.rt:180:5
 loop-again : tie.Need-loop-again Inv-loop μ-loop
-loop-again c = ?
+loop-again c = (omega arith, omega arith, search good-next)
 
--- src/lib.rt:168:1
 returns-4 : tie.Need-returns-4 Inv-loop μ-loop
-returns-4 c = ?
+returns-4 c = search whole-record
 
 pub is-record-spec : {M : Type 1} → statement M
 is-record-spec =
