@@ -10,7 +10,7 @@ use Rattle.text.specs.Ascii.{ascii}
 use Rattle.text.specs.Space.{trimStart, trimmed, blank}
 use Rattle.letters.specs.Same.{sameRaised}
 use Rattle.rowcheck.specs.Check.{Row, nameIn}
-use Rattle.tables.specs.Place.{absent, stands, part, isAbsent, orElse}
+use Rattle.tables.specs.Place.{absent, stands, part, orElse}
 use Rattle.tables.specs.declared.Place.{Place}
 use Rattle.confirmations.specs.declared.Answer.{Answer}
 
@@ -44,6 +44,11 @@ abbrev pub valueWhere : (List ℕ → Bool) → List ℕ → List Row → Place
 valueWhere test text [] = absent
 valueWhere test text (r ∷ rs) = pick (test (nameIn text r)) (valueAt r) (valueWhere test text rs)
 
+-- whether the record has a field whose name passes the test
+abbrev pub hasWhere : (List ℕ → Bool) → List ℕ → List Row → Bool
+hasWhere test text [] = false
+hasWhere test text (r ∷ rs) = either (test (nameIn text r)) (hasWhere test text rs)
+
 -- ---- what a value says
 -- the letter, white space and its case aside; an absent value says nothing
 unfoldable pub says : List ℕ → Place → List ℕ → Bool
@@ -74,7 +79,7 @@ module _ (text : List ℕ) (rows : List Row) (date : Place) where
   field test = valueWhere test text rows
 
   abbrev pub has : (List ℕ → Bool) → Bool
-  has test = not (isAbsent (field test))
+  has test = hasWhere test text rows
 
   abbrev pub isY : List ℕ → Bool
   isY name = says text (field (named name)) (ascii "Y")

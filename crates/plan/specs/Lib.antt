@@ -3,3 +3,4 @@ pub mod Fates
 pub mod Confirmed
 pub mod Plan
 pub mod Examples
+pub mod Shown
