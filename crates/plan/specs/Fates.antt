@@ -11,7 +11,7 @@ use Rattle.times.specs.Moments.{momentOf}
 use Rattle.times.specs.Window.{isWithin}
 use Rattle.dedupe.specs.Keys.{inLog, inFile}
 use Rattle.contacts.specs.Contacts.{Contact, callOf, dateOf, timeOf, bandOf, modeOf}
-use Rattle.chain.specs.Chain.{any}
+use Rattle.chain.specs.Chain.{any, col}
 use Rattle.confirmations.specs.declared.Answer.{Answer}
 use Rattle.plan.specs.Entry.{Entry, noEntry}
 
@@ -72,3 +72,8 @@ module _ (window : ℤ) (download : Bool) (entries : List Entry) (hits : List �
 unfoldable pub count : ℕ → List ℕ → ℕ
 count f [] = 0
 count f (x ∷ xs) = pick (eqb x f) (suc (count f xs)) (count f xs)
+
+-- ---- the fates as a lent table keeps them: sixteen numbers a record, the first of which is its fate; of the first k records
+unfoldable pub fatesIn : List (List ℕ) → ℕ → List ℕ
+fatesIn rows zero = []
+fatesIn rows (suc k) = fatesIn rows k ++ (col rows k 0 ∷ [])

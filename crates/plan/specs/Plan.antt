@@ -55,13 +55,16 @@ planOf window download contacts text rows = planned window download contacts (en
 abbrev pub totalOf : List ℕ → ℕ
 totalOf fates = count 1 fates + count 2 fates + count 3 fates + count 4 fates + count 5 fates + count 6 fates + count 7 fates
 
-unfoldable pub countsOf : Plan → Counts
-countsOf p = record {
-  total = totalOf (p .fates);
-  importable = count 1 (p .fates);
-  confirmations = length (p .confirmations);
-  «already_confirmed» = p .already;
-  duplicates = count 2 (p .fates) + count 3 (p .fates);
-  unmatched = p .unmatched;
-  unusable = count 4 (p .fates);
+unfoldable pub countsWith : List ℕ → ℕ → ℕ → ℕ → Counts
+countsWith fates confirmations already unmatched = record {
+  total = totalOf fates;
+  importable = count 1 fates;
+  confirmations = confirmations;
+  «already_confirmed» = already;
+  duplicates = count 2 fates + count 3 fates;
+  unmatched = unmatched;
+  unusable = count 4 fates;
 }
+
+unfoldable pub countsOf : Plan → Counts
+countsOf p = countsWith (p .fates) (length (p .confirmations)) (p .already) (p .unmatched)
