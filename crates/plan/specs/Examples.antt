@@ -52,6 +52,14 @@ download-ignores : fatesOf (pos 1800) true [] three ≡ 7 ∷ 7 ∷ 4 ∷ []
 unfolding fatesTo fateAt fateOf found firstFrom
 download-ignores = refl
 
+-- only an importable record makes a later one a duplicate: the third is within the window of the second, which is none
+abbrev row : List Entry
+row = ssb (ascii "W1AW") (At 0) [] ∷ ssb (ascii "W1AW") (At 1800) [] ∷ ssb (ascii "W1AW") (At 3600) [] ∷ []
+
+third-is-imported : fatesOf (pos 1800) false [] row ≡ 1 ∷ 3 ∷ 1 ∷ []
+unfolding fatesTo fateAt fateOf repeats found firstFrom over inFile isWithin reaches apart sameRaised raised trimmed trimStart trimEnd lead spaceLen spaceBack width space1 space2 space3 space80
+third-is-imported = refl
+
 -- the total is three
 three-in-all : totalOf (1 ∷ 3 ∷ 4 ∷ []) ≡ 3
 unfolding count
@@ -73,6 +81,11 @@ cards =
 -- year 0, January 1, 00:00
 abbrev log : List Contact
 log = contact 7 2 (ascii "w1aw") (ascii "00000101") (ascii "0000") (ascii "40m") (ascii "SSB") ∷ []
+
+-- the log has W1AW in SSB on 40m; "W1AW " it has not
+in-the-log : fatesOf (pos 1800) false log (ssb (ascii "W1AW") (At 1) [] ∷ ssb (ascii "W1AW ") (At 1) [] ∷ []) ≡ 2 ∷ 1 ∷ []
+unfolding fatesTo fateAt fateOf repeats found firstFrom matches over inFile inLog isWithin reaches apart sameRaised raised trimmed trimStart trimEnd lead spaceLen spaceBack width space1 space2 space3 space80 dateOf clockOf isClock secondsOf momentAt momentOf leap yearDays monthDays daysBeforeYear daysBeforeMonth isDay dayNumber digitsAfter digitsOf
+in-the-log = refl
 
 carded : planned (pos 1800) true log cards
     ≡ record { fates = 5 ∷ 5 ∷ 6 ∷ 6 ∷ []; reasons = 0 ∷ 0 ∷ 0 ∷ 0 ∷ []; confirmations = record { id = 7; service = 1; place = 10; len = 8 } ∷ []; already = 1; unmatched = 1; contacts = 1; largest = 7 }
