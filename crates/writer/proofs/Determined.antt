@@ -1,6 +1,6 @@
 -- Each public call's promise is met by one answer. Assumes nothing.
 use mathlib.Core.Path.{sym, _∙_}
-use Rattle.text.proofs.Once.{OnceWith}
+use Rattle.text.proofs.Once.{Once, OnceWith}
 use denote.Ref.{now}
 use Rattle.writer.proofs.write.Reads as write
 use Rattle.writer.proofs.write.Kinds as write-kinds
