@@ -2,7 +2,13 @@
 //!   bench count                 each call once between marks, for emulator/count.c to count
 //!   bench table COUNTS [time]   the table, from the marks in the file COUNTS, and with times measured here
 
+#[cfg(original)]
+mod contacts;
+#[cfg(original)]
+mod dedupe;
 mod measure;
+#[cfg(original)]
+mod model;
 #[cfg(original)]
 mod reading;
 mod rows;

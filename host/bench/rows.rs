@@ -45,6 +45,12 @@ pub fn all() -> Vec<Row> {
     rows.extend(crate::reading::rows());
     #[cfg(original)]
     rows.extend(crate::writing::rows());
+    #[cfg(original)]
+    rows.extend(crate::model::rows());
+    #[cfg(original)]
+    rows.extend(crate::dedupe::rows());
+    #[cfg(original)]
+    rows.extend(crate::contacts::rows());
     rows
 }
 

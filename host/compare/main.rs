@@ -3,9 +3,14 @@
 //!   compare record DIR            records those answers
 //! SEED changes the random part; ONLY runs the groups whose name starts with it.
 
+mod contacts;
+#[cfg(original)]
+mod dedupe;
 mod frequency;
 mod generate;
 mod harness;
+#[cfg(original)]
+mod model;
 #[cfg(original)]
 mod normalize;
 mod notation;
@@ -43,9 +48,14 @@ fn compare(mut run: Run, folder: &Path) -> ExitCode {
     frequency::run(&mut run);
     reading::run(&mut run);
     writing::run(&mut run);
+    contacts::run(&mut run);
     vectors::run(&mut run, folder);
     #[cfg(original)]
     normalize::run(&mut run);
+    #[cfg(original)]
+    model::run(&mut run);
+    #[cfg(original)]
+    dedupe::run(&mut run);
     #[cfg(original)]
     original::run(&mut run);
     #[cfg(not(original))]

@@ -37,7 +37,11 @@ pub fn expected(text: &[u8], table: &[u32], count: usize, room: usize) -> Result
     };
     let (mut out, mut record, mut names, mut before) = (String::new(), 0, 0, String::new());
     // a text that is too long anyway is not made longer
-    let put = |out: &mut String, part: &str| if out.len() <= LONGEST { out.push_str(part) };
+    let put = |out: &mut String, part: &str| {
+        if out.len() <= LONGEST {
+            out.push_str(part)
+        }
+    };
     for row in table.chunks_exact(5).take(count) {
         let (name, value) = (part(row[1], row[2])?, part(row[3], row[4])?);
         let raised = name.to_ascii_uppercase();
@@ -110,7 +114,13 @@ impl Output {
 }
 
 /// One call on an output of `room` bytes.
-fn call(g: &mut Group, input: impl Input, room: usize, theirs: &Result<Vec<u8>, u32>, ours: impl FnOnce(&mut [u8]) -> Written) {
+fn call(
+    g: &mut Group,
+    input: impl Input,
+    room: usize,
+    theirs: &Result<Vec<u8>, u32>,
+    ours: impl FnOnce(&mut [u8]) -> Written,
+) {
     let mut output = Output::new(room);
     let after = output.after(theirs);
     let answer = ours(output.lent());
@@ -187,8 +197,10 @@ fn value(random: &mut Random) -> Vec<u8> {
 pub fn document(random: &mut Random) -> Rows {
     let mut rows = Rows::default();
     for record in 1..=random.pick(&[0, 1, 1, 1, 2, 3, 7]) {
-        let fields: BTreeMap<String, String> =
-            (0..=random.pick(&[0, 1, 2, 3, 5, 12])).map(|_| name(random)).map(|n| (n.to_ascii_uppercase(), n)).collect();
+        let fields: BTreeMap<String, String> = (0..=random.pick(&[0, 1, 2, 3, 5, 12]))
+            .map(|_| name(random))
+            .map(|n| (n.to_ascii_uppercase(), n))
+            .collect();
         for name in fields.values() {
             if random.below(4) == 0 {
                 rows.text.push(random.next() as u8);
@@ -295,11 +307,10 @@ mod beside {
 
 /// Names of up to three parts, of every kind, in one record; and every character by itself as a name, and at both ends.
 fn names(g: &mut Group) {
-    let parts: Vec<&[u8]> = [
-        "", " ", ":", ">", "<", "a", "Z", "é", "\u{3000}", "EOR", "eoh", "APP_LOTW_EOF", "_", "\n", "\0",
-    ]
-    .map(str::as_bytes)
-    .to_vec();
+    let parts: Vec<&[u8]> =
+        ["", " ", ":", ">", "<", "a", "Z", "é", "\u{3000}", "EOR", "eoh", "APP_LOTW_EOF", "_", "\n", "\0"]
+            .map(str::as_bytes)
+            .to_vec();
     let some = every(&parts, 3).collect::<Vec<_>>();
     for name in some {
         if name.len() > 3 && !g.takes(3) {
@@ -469,9 +480,7 @@ fn export(g: &mut Group) {
             g.same(&texts.concat()[..], original::adif::export_header(version, program, created), text.clone());
             text
         });
-        rooms(g, &texts.concat(), theirs, |out| {
-            sys::export_header(texts.each_ref().map(Vec::as_slice), out)
-        });
+        rooms(g, &texts.concat(), theirs, |out| sys::export_header(texts.each_ref().map(Vec::as_slice), out));
     }
     // the whole header of one byte less than the limit, of the limit, and of one more; and a text that is longer still
     let around = field("ADIF_VER", "").len() + field("PROGRAMID", "rigflow").len() + field("PROGRAMVERSION", "").len();
@@ -515,9 +524,7 @@ fn station(g: &mut Group) {
             }
             text
         });
-        rooms(g, &texts.concat(), theirs, |out| {
-            sys::station_fields(texts.each_ref().map(Vec::as_slice), out)
-        });
+        rooms(g, &texts.concat(), theirs, |out| sys::station_fields(texts.each_ref().map(Vec::as_slice), out));
     }
     let mut out = [0; 60];
     let station = writing::Station { call: " W1AW", cq_zone: "5", ..writing::Station::default() };

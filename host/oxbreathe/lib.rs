@@ -11,6 +11,9 @@
 //! assert_eq!((refusal.cause, refusal.place), (Cause::NotUtf8, 1));
 //! ```
 
+pub mod contact;
+pub mod contacts;
+pub mod dedupe;
 pub mod frequency;
 pub mod normalize;
 pub mod reading;

@@ -9,8 +9,8 @@ const BAND: u32 = 3;
 const MODE: u32 = 4;
 
 /// The names of the library's tables, asked once.
-static BANDS: LazyLock<Vec<String>> = LazyLock::new(|| names(BAND));
-static MODES: LazyLock<Vec<String>> = LazyLock::new(|| names(MODE));
+pub(crate) static BANDS: LazyLock<Vec<String>> = LazyLock::new(|| names(BAND));
+pub(crate) static MODES: LazyLock<Vec<String>> = LazyLock::new(|| names(MODE));
 static CLASSES: LazyLock<Vec<String>> = LazyLock::new(|| (0..4).map(|class| text(sys::class_name(class))).collect());
 
 fn text(name: sys::Name) -> String {

@@ -33,8 +33,8 @@ pub fn read<'a>(text: &'a [u8], table: &'a mut [u32]) -> Result<Read<'a>, Unread
 /// A text that was read.
 #[derive(Clone, Copy, Debug)]
 pub struct Read<'a> {
-    text: &'a str,
-    table: &'a [u32],
+    pub(crate) text: &'a str,
+    pub(crate) table: &'a [u32],
     pub records: usize,
 }
 

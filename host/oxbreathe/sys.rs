@@ -131,6 +131,16 @@ pub struct Frequency {
     pub hz: u64,
 }
 
+/// With a moment, its seconds since the first day of year 0.
+#[derive(Clone, Copy, Debug, PartialEq, Eq)]
+#[repr(C)]
+pub struct Timed {
+    pub refusal: u32,
+    pub place: usize,
+    pub present: bool,
+    pub seconds: u64,
+}
+
 /// How a text was read: refused, with what comes with the refusal, or the records and the rows they take.
 #[repr(C)]
 #[derive(Clone, Copy, Debug, Default, PartialEq, Eq)]
@@ -144,6 +154,61 @@ pub struct ReadAnswer {
     pub records: usize,
     pub rows: usize,
 }
+
+/// A frequency in hertz, if one is given.
+#[repr(C)]
+#[derive(Clone, Copy, Debug, Default, PartialEq, Eq)]
+pub struct Hertz {
+    pub given: bool,
+    pub hz: u64,
+}
+
+/// The number of the DXCC entity by sign and size, if one is given.
+#[repr(C)]
+#[derive(Clone, Copy, Debug, Default, PartialEq, Eq)]
+pub struct Dxcc {
+    pub given: bool,
+    pub negative: bool,
+    pub size: u64,
+}
+
+/// A contact over a text: its columns, in the order of [`COLUMNS`](crate::contact::COLUMNS), and its numbers.
+#[repr(C)]
+#[derive(Clone, Copy, Debug, Default, PartialEq, Eq)]
+pub struct Qso {
+    pub columns: [Place; 13],
+    pub freq: Hertz,
+    pub freq_rx: Hertz,
+    pub dxcc: Dxcc,
+}
+
+/// A contact, and why the call refused, or 0.
+#[repr(C)]
+#[derive(Clone, Copy, Debug, Default, PartialEq, Eq)]
+pub struct QsoAnswer {
+    pub refusal: u32,
+    pub qso: Qso,
+}
+
+/// A contact list's mark, or why it is none.
+#[repr(C)]
+#[derive(Clone, Copy, Debug, Default, PartialEq, Eq)]
+pub struct MarkAnswer {
+    pub refusal: u32,
+    pub contacts: usize,
+    pub largest: u64,
+}
+
+/// Whether a plan with a mark is fresh against a list.
+#[repr(C)]
+#[derive(Clone, Copy, Debug, Default, PartialEq, Eq)]
+pub struct FreshAnswer {
+    pub refusal: u32,
+    pub fresh: bool,
+}
+
+/// What the contact index keeps of a contact.
+pub type Record = [u32; 14];
 
 mod c {
     use super::*;
@@ -217,6 +282,67 @@ mod c {
             out: *mut u8,
             room: usize,
         ) -> Written;
+        pub fn ox_parse_dt(date: *const u8, date_length: usize, time: *const u8, time_length: usize) -> Timed;
+        pub fn ox_in_log(a: *const u8, a_length: usize, q: Qso, b: *const u8, b_length: usize, o: Qso) -> Told;
+        pub fn ox_in_file(a: *const u8, a_length: usize, q: Qso, b: *const u8, b_length: usize, o: Qso) -> Told;
+        pub fn ox_same_natural_key(
+            a: *const u8,
+            a_length: usize,
+            q: Qso,
+            b: *const u8,
+            b_length: usize,
+            o: Qso,
+        ) -> Told;
+        pub fn ox_within_window(
+            a: *const u8,
+            a_length: usize,
+            q: Qso,
+            b: *const u8,
+            b_length: usize,
+            o: Qso,
+            window: i64,
+        ) -> Told;
+        pub fn ox_is_duplicate(
+            a: *const u8,
+            a_length: usize,
+            q: Qso,
+            b: *const u8,
+            b_length: usize,
+            o: Qso,
+            window: i64,
+        ) -> Told;
+        pub fn ox_column(name: *const u8, length: usize) -> u32;
+        pub fn ox_record_to_qso(
+            text: *const u8,
+            length: usize,
+            table: *const u32,
+            numbers: usize,
+            first: usize,
+            count: usize,
+        ) -> QsoAnswer;
+        pub fn ox_record_to_normal_qso(
+            text: *const u8,
+            length: usize,
+            table: *const u32,
+            numbers: usize,
+            first: usize,
+            count: usize,
+        ) -> QsoAnswer;
+        pub fn ox_normalize_qso(text: *const u8, length: usize, qso: Qso) -> QsoAnswer;
+        pub fn ox_contacts_check(list: *const u8, length: usize) -> MarkAnswer;
+        pub fn ox_contacts_fresh(contacts: usize, largest: u64, list: *const u8, length: usize) -> FreshAnswer;
+        pub fn ox_contacts_index(list: *const u8, length: usize, index: *mut Record, records: usize) -> MarkAnswer;
+        pub fn ox_contacts_search(
+            list: *const u8,
+            length: usize,
+            other: *const u8,
+            other_length: usize,
+            window: i64,
+            index: *mut Record,
+            records: usize,
+            found: *mut u64,
+            numbers: usize,
+        ) -> MarkAnswer;
     }
 }
 
@@ -334,5 +460,52 @@ pub fn station_fields([call, grid, name, state, county, cq, itu]: [&[u8]; 7], ou
             out.as_mut_ptr(),
             out.len(),
         )
+    }
+}
+pub fn parse_dt(date: &[u8], time: &[u8]) -> Timed {
+    unsafe { c::ox_parse_dt(date.as_ptr(), date.len(), time.as_ptr(), time.len()) }
+}
+pub fn in_log(a: &[u8], q: Qso, b: &[u8], o: Qso) -> Told {
+    unsafe { c::ox_in_log(a.as_ptr(), a.len(), q, b.as_ptr(), b.len(), o) }
+}
+pub fn in_file(a: &[u8], q: Qso, b: &[u8], o: Qso) -> Told {
+    unsafe { c::ox_in_file(a.as_ptr(), a.len(), q, b.as_ptr(), b.len(), o) }
+}
+pub fn same_natural_key(a: &[u8], q: Qso, b: &[u8], o: Qso) -> Told {
+    unsafe { c::ox_same_natural_key(a.as_ptr(), a.len(), q, b.as_ptr(), b.len(), o) }
+}
+pub fn within_window(a: &[u8], q: Qso, b: &[u8], o: Qso, window: i64) -> Told {
+    unsafe { c::ox_within_window(a.as_ptr(), a.len(), q, b.as_ptr(), b.len(), o, window) }
+}
+pub fn is_duplicate(a: &[u8], q: Qso, b: &[u8], o: Qso, window: i64) -> Told {
+    unsafe { c::ox_is_duplicate(a.as_ptr(), a.len(), q, b.as_ptr(), b.len(), o, window) }
+}
+pub fn column(name: &[u8]) -> u32 {
+    unsafe { c::ox_column(name.as_ptr(), name.len()) }
+}
+pub fn record_to_qso(text: &[u8], table: &[u32], first: usize, count: usize) -> QsoAnswer {
+    unsafe { c::ox_record_to_qso(text.as_ptr(), text.len(), table.as_ptr(), table.len(), first, count) }
+}
+pub fn record_to_normal_qso(text: &[u8], table: &[u32], first: usize, count: usize) -> QsoAnswer {
+    unsafe { c::ox_record_to_normal_qso(text.as_ptr(), text.len(), table.as_ptr(), table.len(), first, count) }
+}
+pub fn normalize_qso(text: &[u8], qso: Qso) -> QsoAnswer {
+    unsafe { c::ox_normalize_qso(text.as_ptr(), text.len(), qso) }
+}
+pub fn contacts_check(list: &[u8]) -> MarkAnswer {
+    unsafe { c::ox_contacts_check(list.as_ptr(), list.len()) }
+}
+pub fn contacts_fresh(contacts: usize, largest: u64, list: &[u8]) -> FreshAnswer {
+    unsafe { c::ox_contacts_fresh(contacts, largest, list.as_ptr(), list.len()) }
+}
+pub fn contacts_index(list: &[u8], index: &mut [Record]) -> MarkAnswer {
+    unsafe { c::ox_contacts_index(list.as_ptr(), list.len(), index.as_mut_ptr(), index.len()) }
+}
+pub fn contacts_search(list: &[u8], other: &[u8], window: i64, index: &mut [Record], found: &mut [u64]) -> MarkAnswer {
+    let (records, numbers) = (index.len(), found.len());
+    let (index, found) = (index.as_mut_ptr(), found.as_mut_ptr());
+    let (other, other_length) = (other.as_ptr(), other.len());
+    unsafe {
+        c::ox_contacts_search(list.as_ptr(), list.len(), other, other_length, window, index, records, found, numbers)
     }
 }

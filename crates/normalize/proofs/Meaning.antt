@@ -383,7 +383,7 @@ module _ (mt st : List ℕ) (m s : Place) (hm : modal m ≡ true) (hs : modal s 
   pub submode-means : value (pick (isEmpty (tidy st s)) mt st) (normalPlaces mt m st s .submode) ≡ normal (bytes mt m) (value st s) .submode
   submode-means = submode-is mt st m s (is-modal m hm) (is-modal s hs)
 
-one-text : (b : Bool) (text : List ℕ) → pick b text text ≡ text
+pub one-text : (b : Bool) (text : List ℕ) → pick b text text ≡ text
 one-text true text = refl
 one-text false text = refl
 

@@ -1,4 +1,3 @@
-pub mod TruncatedLaws
 pub mod TextLaws
 pub mod WrittenLaws
 pub mod Determined

@@ -6,7 +6,7 @@ use lib.Dec.{ltb}
 use Rattle.text.specs.Pick.{pick}
 use Rattle.text.specs.Utf8.{validUpTo}
 use Rattle.refusals.specs.declared.Refusal.{Refusal}
-use Rattle.refusals.specs.declared.Refusal.the-variants.{TooLong, NotUtf8, UnterminatedTag, MissingLength, BadLength, TruncatedValue, NonUtf8, ManyNames, ManyRecords, FewRows, BadRow, BadName, ShortOutput, FrequencyTooHigh, InexactFrequency}
+use Rattle.refusals.specs.declared.Refusal.the-variants.{TooLong, NotUtf8, UnterminatedTag, MissingLength, BadLength, TruncatedValue, NonUtf8, ManyNames, ManyRecords, FewRows, BadRow, BadName, ShortOutput, FrequencyTooHigh, InexactFrequency, OtherVersion, MalformedList, IdsNotRising, ShortTable}
 use Rattle.refusals.specs.declared.Verdict.{Verdict}
 use Rattle.refusals.specs.declared.Verdict.the-variants.{Accepted, Refused}
 
@@ -26,6 +26,10 @@ numberOf BadName = 12
 numberOf ShortOutput = 13
 numberOf FrequencyTooHigh = 14
 numberOf InexactFrequency = 15
+numberOf OtherVersion = 16
+numberOf MalformedList = 17
+numberOf IdsNotRising = 18
+numberOf ShortTable = 19
 
 abbrev pub placeOf : Refusal → ℕ
 placeOf TooLong = 0
@@ -43,6 +47,10 @@ placeOf BadName = 0
 placeOf ShortOutput = 0
 placeOf FrequencyTooHigh = 0
 placeOf InexactFrequency = 0
+placeOf OtherVersion = 0
+placeOf MalformedList = 0
+placeOf IdsNotRising = 0
+placeOf ShortTable = 0
 
 -- the name that comes with 4 to 7, by its place in the text and its length
 abbrev pub nameOf : Refusal → ℕ
@@ -61,6 +69,10 @@ nameOf BadName = 0
 nameOf ShortOutput = 0
 nameOf FrequencyTooHigh = 0
 nameOf InexactFrequency = 0
+nameOf OtherVersion = 0
+nameOf MalformedList = 0
+nameOf IdsNotRising = 0
+nameOf ShortTable = 0
 
 abbrev pub nameLengthOf : Refusal → ℕ
 nameLengthOf TooLong = 0
@@ -78,6 +90,10 @@ nameLengthOf BadName = 0
 nameLengthOf ShortOutput = 0
 nameLengthOf FrequencyTooHigh = 0
 nameLengthOf InexactFrequency = 0
+nameLengthOf OtherVersion = 0
+nameLengthOf MalformedList = 0
+nameLengthOf IdsNotRising = 0
+nameLengthOf ShortTable = 0
 
 -- with 6, the length that was wanted and the bytes that were left
 abbrev pub wantedOf : Refusal → ℕ
@@ -96,6 +112,10 @@ wantedOf BadName = 0
 wantedOf ShortOutput = 0
 wantedOf FrequencyTooHigh = 0
 wantedOf InexactFrequency = 0
+wantedOf OtherVersion = 0
+wantedOf MalformedList = 0
+wantedOf IdsNotRising = 0
+wantedOf ShortTable = 0
 
 abbrev pub leftOf : Refusal → ℕ
 leftOf TooLong = 0
@@ -113,6 +133,10 @@ leftOf BadName = 0
 leftOf ShortOutput = 0
 leftOf FrequencyTooHigh = 0
 leftOf InexactFrequency = 0
+leftOf OtherVersion = 0
+leftOf MalformedList = 0
+leftOf IdsNotRising = 0
+leftOf ShortTable = 0
 
 -- 1 above 16,777,216 bytes, then 2 where it is not UTF-8
 unfoldable pub ofText : List ℕ → Verdict

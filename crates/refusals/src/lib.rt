@@ -40,6 +40,12 @@ pub enum Refusal {
     ShortOutput,
     FrequencyTooHigh,
     InexactFrequency,
+    // of a contact list
+    OtherVersion,
+    MalformedList,
+    IdsNotRising,
+    // a lent index, fates or confirmations
+    ShortTable,
 }
 
 pub enum Verdict {
@@ -77,6 +83,10 @@ pub fn number(r: Refusal) -> u32
         Refusal::ShortOutput => 13,
         Refusal::FrequencyTooHigh => 14,
         Refusal::InexactFrequency => 15,
+        Refusal::OtherVersion => 16,
+        Refusal::MalformedList => 17,
+        Refusal::IdsNotRising => 18,
+        Refusal::ShortTable => 19,
     }
 }
 
@@ -105,6 +115,10 @@ pub fn place(r: Refusal) -> usize
         Refusal::ShortOutput => 0,
         Refusal::FrequencyTooHigh => 0,
         Refusal::InexactFrequency => 0,
+        Refusal::OtherVersion => 0,
+        Refusal::MalformedList => 0,
+        Refusal::IdsNotRising => 0,
+        Refusal::ShortTable => 0,
     }
 }
 
@@ -133,6 +147,10 @@ pub fn name(r: Refusal) -> usize
         Refusal::ShortOutput => 0,
         Refusal::FrequencyTooHigh => 0,
         Refusal::InexactFrequency => 0,
+        Refusal::OtherVersion => 0,
+        Refusal::MalformedList => 0,
+        Refusal::IdsNotRising => 0,
+        Refusal::ShortTable => 0,
     }
 }
 
@@ -160,6 +178,10 @@ pub fn name_length(r: Refusal) -> usize
         Refusal::ShortOutput => 0,
         Refusal::FrequencyTooHigh => 0,
         Refusal::InexactFrequency => 0,
+        Refusal::OtherVersion => 0,
+        Refusal::MalformedList => 0,
+        Refusal::IdsNotRising => 0,
+        Refusal::ShortTable => 0,
     }
 }
 
@@ -188,6 +210,10 @@ pub fn wanted(r: Refusal) -> u64
         Refusal::ShortOutput => 0,
         Refusal::FrequencyTooHigh => 0,
         Refusal::InexactFrequency => 0,
+        Refusal::OtherVersion => 0,
+        Refusal::MalformedList => 0,
+        Refusal::IdsNotRising => 0,
+        Refusal::ShortTable => 0,
     }
 }
 
@@ -215,6 +241,10 @@ pub fn left(r: Refusal) -> u64
         Refusal::ShortOutput => 0,
         Refusal::FrequencyTooHigh => 0,
         Refusal::InexactFrequency => 0,
+        Refusal::OtherVersion => 0,
+        Refusal::MalformedList => 0,
+        Refusal::IdsNotRising => 0,
+        Refusal::ShortTable => 0,
     }
 }
 

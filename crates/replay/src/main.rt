@@ -8,10 +8,14 @@ struct Tally {
     agree: usize,
 }
 
-// What it answers on records, read and written.
-fn records(op: &[u8], line: &[u8], a: &mut [u8], out: &mut [u8]) -> usize
+// What it answers on records, read, written and compared.
+fn records(op: &[u8], line: &[u8], a: &mut [u8], b: &mut [u8], out: &mut [u8]) -> usize
     ensures { λ r. ⌜ r ≤ length (now (out .exit)) ⌝ }
 {
+    let d = answers_dedupe::answer(op, line, a, b, out);
+    if 0 < d {
+        return d;
+    }
     let n = answers_reader::answer(op, line, a, out);
     if 0 < n {
         return n;
@@ -36,7 +40,7 @@ fn answered(line: &[u8], a: &mut [u8], b: &mut [u8], out: &mut [u8]) -> usize
     if 0 < k {
         return k;
     }
-    records(op, line, a, out)
+    records(op, line, a, b, out)
 }
 
 // 1 where the library answers as the line says, else 0; a, b and out are room to work in.

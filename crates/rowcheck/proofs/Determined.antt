@@ -9,6 +9,12 @@ use Rattle.rowcheck.proofs.record_of.Reads as record-of
 use Rattle.rowcheck.proofs.record_of.Kinds as record-of-kinds
 use Rattle.rowcheck.proofs.verdict_of.Reads as verdict-of
 use Rattle.rowcheck.proofs.verdict_of.Kinds as verdict-of-kinds
+use Rattle.rowcheck.proofs.is_less.Reads as is-less
+use Rattle.rowcheck.proofs.is_less.Kinds as is-less-kinds
+use Rattle.rowcheck.proofs.is_placed.Reads as is-placed
+use Rattle.rowcheck.proofs.is_placed.Kinds as is-placed-kinds
+use Rattle.rowcheck.proofs.is_sound.Reads as is-sound
+use Rattle.rowcheck.proofs.is_sound.Kinds as is-sound-kinds
 
 is-fine-once : Once 0 is-fine-kinds.ps is-fine-kinds.r is-fine.Post
 is-fine-once κs a x y d e p q = p ∙ sym q
@@ -21,3 +27,12 @@ record-of-once κs a x y d e p q = p ∙ sym q
 
 verdict-of-once : Once 1 verdict-of-kinds.ps verdict-of-kinds.r verdict-of.Post
 verdict-of-once κs a x y d e p q = p ∙ sym q
+
+is-less-once : Once 0 is-less-kinds.ps is-less-kinds.r is-less.Post
+is-less-once κs a x y d e p q = p ∙ sym q
+
+is-placed-once : Once 1 is-placed-kinds.ps is-placed-kinds.r is-placed.Post
+is-placed-once κs a x y d e p q = p ∙ sym q
+
+is-sound-once : Once 1 is-sound-kinds.ps is-sound-kinds.r is-sound.Post
+is-sound-once κs a x y d e p q = p ∙ sym q

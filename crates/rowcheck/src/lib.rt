@@ -43,7 +43,7 @@ fn end_of(at: u32, n: u32) -> usize
     at as usize + n as usize
 }
 
-fn is_placed(text: &[u8], row: [u32; 5]) -> bool
+pub fn is_placed(text: &[u8], row: [u32; 5]) -> bool
     ensures { λ r. ⌜ r ≡ placed (now (text .entry)) row ⌝ }
 {
     let m = end_of(row[1], row[2]);
@@ -51,7 +51,7 @@ fn is_placed(text: &[u8], row: [u32; 5]) -> bool
     text::all(m <= text.len(), w <= text.len())
 }
 
-fn is_sound(text: &[u8], row: [u32; 5]) -> bool
+pub fn is_sound(text: &[u8], row: [u32; 5]) -> bool
     ensures { λ r. ⌜ r ≡ sound (now (text .entry)) row ⌝ }
 {
     let name = text::utf8::is_utf8(name_of(text, row));
@@ -59,7 +59,7 @@ fn is_sound(text: &[u8], row: [u32; 5]) -> bool
     text::all(name, value)
 }
 
-fn is_less(o: Order) -> bool
+pub fn is_less(o: Order) -> bool
     ensures { λ r. ⌜ r ≡ isLess o ⌝ }
 {
     match o {

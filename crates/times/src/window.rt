@@ -4,7 +4,7 @@ ghost use Rattle.times.specs.Window.{limitOf, apart, isWithin};
 use super::Moment;
 
 // One more than the window, and 0 where it is below zero: a distance is within the window exactly if it is below this.
-fn limit_of(window: i64) -> u64
+pub fn limit_of(window: i64) -> u64
     ensures { λ r. ⌜ r ≡ limitOf window ⌝ }
 {
     if window < 0 {

@@ -22,7 +22,8 @@ fn sized_by(v: Verdict, size: usize) -> Written
     }
 }
 
-fn row_at(table: &[u32], i: usize) -> [u32; 5]
+// The row i.
+pub fn row_at(table: &[u32], i: usize) -> [u32; 5]
     requires { ⌜ i * 5 + 5 ≤ length (now table) ⌝ }
     ensures { λ r. ⌜ r ≡ rowAt (now (table .entry)) i ⌝ }
 {

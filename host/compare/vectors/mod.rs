@@ -1,6 +1,7 @@
 //! Recorded answers of Rust's std and the original, one a line: written by `record`, replayed through the library as a
 //! group, and by a Rattle program. An area is one file of vectors; a new one is a module with an `AREA`, named below.
 
+mod dedupe;
 mod frequency;
 mod normalize;
 mod reading;
@@ -15,7 +16,7 @@ use std::collections::HashSet;
 use std::path::Path;
 use std::process::ExitCode;
 
-const AREAS: [Area; 5] = [text::AREA, frequency::AREA, normalize::AREA, reading::AREA, writing::AREA];
+const AREAS: [Area; 6] = [text::AREA, frequency::AREA, normalize::AREA, reading::AREA, writing::AREA, dedupe::AREA];
 
 struct Area {
     /// The file's name without `.txt`.

@@ -88,7 +88,9 @@ fn questions(random: &mut Random) -> Vec<Question> {
         let text = [name.as_bytes(), b"<EOR>\n"].concat();
         all.push(question("write", &text, 1, 40, &[1, 0, name.len() as u32, name.len() as u32, 6]));
     }
-    for row in [[0, 0, 1, 1, 1], [2, 0, 1, 1, 1], [1, 3, 1, 0, 0], [1, 0, 1, 2, 2], [1, 3, 0, 3, 0], [1, 0, 1, 0, u32::MAX]] {
+    for row in
+        [[0, 0, 1, 1, 1], [2, 0, 1, 1, 1], [1, 3, 1, 0, 0], [1, 0, 1, 2, 2], [1, 3, 0, 3, 0], [1, 0, 1, 0, u32::MAX]]
+    {
         all.push(question("write", b"aBc", 1, 40, &row));
         all.push(question("write", b"aBc", 2, 40, &row));
     }

@@ -1,0 +1,130 @@
+-- What a row adds to what was heard. Assumes nothing.
+use mathlib.Core.Path.{_≡_, refl, sym, ap, _∙_}
+use mathlib.Core.Bool.{Bool, true, false, not}
+use mathlib.Core.List.{List, [], _∷_, map}
+use Prim.Native.Nat.{ℕ, suc, _+_, _-_, _≤_, _<_}
+use native.Mathlib.Omega.{arith}
+use lib.Dec.{eqb}
+use lib.ListN.{length, getD, take, List·getD-map}
+use lib.Seq.{getD-take}
+use borrow.Author.Tests.{not-true, eqb-true, eq-eqb}
+use Rattle.text.specs.Pick.{pick, both, either}
+use Rattle.text.specs.Ascii.{ascii}
+use Rattle.letters.specs.Capitals.{raised, capitals}
+use Rattle.letters.specs.Same.{sameRaised}
+use Rattle.letters.proofs.SameLaws.{same-raised-true}
+use Rattle.rowcheck.specs.Check.{Row, nameIn}
+use Rattle.writer.specs.Rows.{rowAt, rowsFrom}
+use Rattle.tables.specs.declared.Place.{Place}
+use Rattle.confirmations.specs.declared.Said.{Said}
+use Rattle.confirmations.specs.declared.Heard.{Heard}
+use Rattle.confirmations.specs.Confirmations.{named, begins, valueAt}
+use Rattle.confirmations.specs.Heard.{saidOf, heardOf, saidWith, heardWith, telling}
+
+-- ---- two names
+module _ (name wanted dated : List ℕ) (v : Place) (was : Said) (a : Bool) (ea : a ≡ sameRaised name wanted) (b : Bool) (eb : b ≡ sameRaised name dated) where
+  pub said-both : a ≡ true → b ≡ true → (record { value = v; date = v }) ≡ saidWith name v wanted dated was
+  unfolding saidWith
+  said-both p q = rw (← ea, ← eb, p, q) refl
+
+  pub said-value : a ≡ true → b ≡ false → (record { value = v; date = was .date }) ≡ saidWith name v wanted dated was
+  unfolding saidWith
+  said-value p q = rw (← ea, ← eb, p, q) refl
+
+  pub said-date : a ≡ false → b ≡ true → (record { value = was .value; date = v }) ≡ saidWith name v wanted dated was
+  unfolding saidWith
+  said-date p q = rw (← ea, ← eb, p, q) refl
+
+  pub said-neither : a ≡ false → b ≡ false → was ≡ saidWith name v wanted dated was
+  unfolding saidWith
+  said-neither p q = rw (← ea, ← eb, p, q) refl
+
+-- ---- all of them
+pub heard-is : (name : List ℕ) (v : Place) (was : Heard) (l e q k : Said) (t ag o oe m ol : Bool)
+    → l ≡ saidWith name v (ascii "LOTW_QSL_RCVD") (ascii "LOTW_QSLRDATE") (was .lotw)
+    → e ≡ saidWith name v (ascii "EQSL_QSL_RCVD") (ascii "EQSL_QSLRDATE") (was .eqsl)
+    → q ≡ saidWith name v (ascii "APP_QRZLOG_STATUS") (ascii "APP_QRZLOG_QSLDATE") (was .qrz)
+    → k ≡ saidWith name v (ascii "QSL_RCVD") (ascii "QSLRDATE") (was .card)
+    → t ≡ sameRaised name (ascii "EQSL_AG") → ag ≡ either t (was .«has_ag»)
+    → o ≡ begins (ascii "APP_EQSL") name → oe ≡ either o (was .«of_eqsl»)
+    → m ≡ begins (ascii "APP_LOTW") name → ol ≡ either m (was .«of_lotw»)
+    → (record { lotw = l; eqsl = e; qrz = q; card = k; «has_ag» = ag; «of_eqsl» = oe; «of_lotw» = ol }) ≡ heardWith name v was
+unfolding heardWith
+heard-is name v was l e q k t ag o oe m ol el ee eq ek et ea eo eoe em eol = rw (← el, ← ee, ← eq, ← ek, ← et, ← ea, ← eo, ← eoe, ← em, ← eol) refl
+
+-- ---- a name that begins with another letter tells nothing
+false-of : (t : Bool) → (t ≡ true → ⊥) → t ≡ false
+false-of true h = absurd (h refl)
+false-of false h = refl
+
+unlike : (name wanted : List ℕ) → (raised (getD name 0 0) ≡ raised (getD wanted 0 0) → ⊥) → sameRaised name wanted ≡ false
+unfolding raised
+unlike name wanted h =
+    false-of (sameRaised name wanted)
+    (λ e. h (sym (List·getD-map raised name 0 0) ∙ ap (λ (l : List ℕ). getD l 0 0) (same-raised-true name wanted e) ∙ List·getD-map raised wanted 0 0))
+
+module _ (name : List ℕ) (b : ℕ) (eb : b ≡ getD name 0 0) (t : Bool) (et : t ≡ telling b) (h : not t ≡ true) where
+  silent : (k : ℕ) → (telling k ≡ true) → raised (getD name 0 0) ≡ raised k → ⊥
+  unfolding telling
+  silent k y e =
+      let z : telling b ≡ true = rw (eb, e) y in
+      let n : _≡_ {A = Bool} true false = sym z ∙ sym et ∙ not-true t h in
+      let o : _≡_ {A = ℕ} 0 1 = cc in
+      omega arith
+
+  lacks : (wanted : List ℕ) → telling (getD wanted 0 0) ≡ true → sameRaised name wanted ≡ false
+  lacks wanted y = unlike name wanted (silent (getD wanted 0 0) y)
+
+  first-of : (xs : List ℕ) → getD (take 8 xs) 0 0 ≡ getD xs 0 0
+  first-of [] = refl
+  first-of (x ∷ xs) = refl
+
+  lacks-front : (wanted : List ℕ) → telling (getD wanted 0 0) ≡ true → sameRaised (take 8 name) wanted ≡ false
+  lacks-front wanted y = unlike (take 8 name) wanted (λ e. silent (getD wanted 0 0) y (sym (ap raised (first-of name)) ∙ e))
+
+  pub quiet : (v : Place) (was : Heard) → was ≡ heardWith name v was
+  unfolding heardWith saidWith telling raised
+  quiet v was =
+      simp
+      (lacks (ascii "LOTW_QSL_RCVD") refl, lacks (ascii "LOTW_QSLRDATE") refl, lacks (ascii "EQSL_QSL_RCVD") refl, lacks (ascii "EQSL_QSLRDATE") refl, lacks (ascii "APP_QRZLOG_STATUS") refl, lacks (ascii "APP_QRZLOG_QSLDATE") refl, lacks (ascii "QSL_RCVD") refl, lacks (ascii "QSLRDATE") refl, lacks (ascii "EQSL_AG") refl, lacks-front (ascii "APP_EQSL") refl, lacks-front (ascii "APP_LOTW") refl)
+      refl
+
+-- a row that is passed over, and one that is not
+module _ (text : List ℕ) (row : Row) (was : Heard) (name : List ℕ) (en : name ≡ nameIn text row) where
+  pub row-passed : (b : ℕ) (t : Bool) → b ≡ getD name 0 0 → t ≡ telling b → not t ≡ true → was ≡ heardWith (nameIn text row) (valueAt row) was
+  row-passed b t eb et h = quiet name b eb t et h (valueAt row) was ∙ ap (λ (n : List ℕ). heardWith n (valueAt row) was) en
+
+  pub row-heard : (v : Place) (r : Heard) → v ≡ valueAt row → r ≡ heardWith name v was → r ≡ heardWith (nameIn text row) (valueAt row) was
+  row-heard v r ev er = er ∙ rw (en, ev) refl
+
+-- ---- the rows from the last to the first
+pub no-rows : (text t : List ℕ) (first count : ℕ) (h : Heard) → h ≡ heardOf [] [] → h ≡ heardOf text (rowsFrom t (first + count) (count - count))
+unfolding heardOf
+no-rows text t first count h e =
+    let z : count - count ≡ 0 = omega arith in
+    e ∙ rw z refl
+
+row-before : (t : List ℕ) (first count i : ℕ) → 0 < i → i ≤ count
+    → rowsFrom t (first + (i - 1)) (count - (i - 1)) ≡ rowAt t (first + (i - 1)) ∷ rowsFrom t (first + i) (count - i)
+row-before t first count i h l =
+    let e : count - (i - 1) ≡ suc (count - i) = omega arith in
+    let f : suc (first + (i - 1)) ≡ first + i = omega arith in
+    rw (e, f) refl
+
+one-more : (text : List ℕ) (r : Row) (rs : List Row) → heardOf text (r ∷ rs) ≡ heardWith (nameIn text r) (valueAt r) (heardOf text rs)
+unfolding heardOf heardWith saidWith
+one-more text r rs = refl
+
+pub row-on : (text t : List ℕ) (first count i : ℕ) (was : Heard) (row : Row) (now : Heard) → 0 < i → i ≤ count
+    → was ≡ heardOf text (rowsFrom t (first + i) (count - i)) → row ≡ rowAt t (first + (i - 1)) → now ≡ heardWith (nameIn text row) (valueAt row) was
+    → now ≡ heardOf text (rowsFrom t (first + (i - 1)) (count - (i - 1)))
+row-on text t first count i was row now h l ew er en =
+    en
+    ∙ rw (er, ew) (sym (one-more text (rowAt t (first + (i - 1))) (rowsFrom t (first + i) (count - i))))
+    ∙ ap (heardOf text) (sym (row-before t first count i h l))
+
+pub all-rows : (text t : List ℕ) (first count i : ℕ) (h : Heard) → i ≤ 0 → h ≡ heardOf text (rowsFrom t (first + i) (count - i)) → h ≡ heardOf text (rowsFrom t first count)
+all-rows text t first count i h z e =
+    let y : first + i ≡ first = omega arith in
+    let x : count - i ≡ count = omega arith in
+    rw (y, x) at e

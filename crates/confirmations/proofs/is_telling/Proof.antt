@@ -1,0 +1,26 @@
+use Rattle.confirmations.specs.Heard.{telling}
+use borrow.Author.Needs.{needs}
+use Rattle.confirmations.proofs.is_telling.Statement.{statement}
+use Rattle.confirmations.proofs.is_telling.Tie as tie
+use Rattle.letters.proofs.raise.Reads as raise-reads
+use Rattle.text.proofs.any.Reads as any-reads
+
+raise-requires : tie.Need-raise-requires
+raise-requires c κs = search needs
+
+any-requires : tie.Need-any-requires
+any-requires c κs = search needs
+
+any-requires-2 : tie.Need-any-requires-2
+any-requires-2 c κs = search needs
+
+any-requires-3 : tie.Need-any-requires-3
+any-requires-3 c κs = search needs
+
+returns : tie.Need-returns
+unfolding telling
+returns c = cc
+
+pub is-telling-spec : {M : Type 1} → statement M
+is-telling-spec =
+    tie.close (tie.spec raise-requires any-requires any-requires-2 any-requires-3 returns)

@@ -1,0 +1,3 @@
+pub mod Confirmations
+pub mod Heard
+pub mod Examples

@@ -1,0 +1,4 @@
+pub mod KeyLaws
+pub mod ViewLaws
+pub mod MomentLaws
+pub mod Determined

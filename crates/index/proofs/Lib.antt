@@ -1,0 +1,4 @@
+pub mod RowLaws
+pub mod ChainLaws
+pub mod BuildLaws
+pub mod Determined

@@ -1,0 +1,1 @@
+// Contacts written as a list, one after the other.

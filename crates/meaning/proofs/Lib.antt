@@ -1,0 +1,3 @@
+pub mod BandLaws
+pub mod NormalMeaning
+pub mod MappingMeaning

@@ -1,0 +1,1 @@
+// What mapping and normalising mean: theorems about their definitions, and nothing that runs.

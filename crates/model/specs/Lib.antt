@@ -1,0 +1,4 @@
+pub mod Contact
+pub mod Normal
+pub mod Answer
+pub mod Examples

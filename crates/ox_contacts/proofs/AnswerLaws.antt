@@ -1,0 +1,49 @@
+-- The answers, by what the library says. Assumes nothing.
+use mathlib.Core.Path.{_≡_, refl, ap, _∙_}
+use mathlib.Core.List.{List}
+use lib.IntN.{ℤ}
+use Rattle.times.specs.Window.{limitOf}
+use Rattle.lookup.specs.Lookup.{foundAfter}
+use mathlib.Core.Bool.{true, false}
+use Prim.Native.Nat.{ℕ}
+use Rattle.refusals.specs.Refusals.{numberOf}
+use Rattle.refusals.specs.declared.Refusal.{Refusal}
+use Rattle.contacts.specs.declared.Listed.{Listed}
+use Rattle.contacts.specs.declared.Listed.the-variants.{Marked, Refused}
+use Rattle.contacts.specs.declared.Freshness.{Freshness}
+use Rattle.contacts.specs.declared.Freshness.the-variants
+use Rattle.ox_contacts.specs.Answers.{ofListed, ofFreshness}
+use Rattle.ox_contacts.specs.declared.MarkAnswer.{MarkAnswer}
+use Rattle.ox_contacts.specs.declared.FreshAnswer.{FreshAnswer}
+
+module _ (l : Listed) where
+  pub listed-marked : (n top : ℕ) → l ≡ Marked n top → (record { refusal = 0; contacts = n; largest = top }) ≡ ofListed l
+  unfolding ofListed
+  listed-marked n top e = rw e refl
+
+  pub listed-refused : (why : Refusal) (k : ℕ) → l ≡ Refused why → k ≡ numberOf why → (record { refusal = k; contacts = 0; largest = 0 }) ≡ ofListed l
+  unfolding ofListed
+  listed-refused why k e q = rw (e, q) refl
+
+module _ (f : Freshness) where
+  pub fresh-yes : f ≡ the-variants.Fresh → (record { refusal = 0; fresh = true }) ≡ ofFreshness f
+  unfolding ofFreshness
+  fresh-yes e = rw e refl
+
+  pub fresh-no : f ≡ the-variants.Stale → (record { refusal = 0; fresh = false }) ≡ ofFreshness f
+  unfolding ofFreshness
+  fresh-no e = rw e refl
+
+  pub fresh-refused : (why : Refusal) (k : ℕ) → f ≡ the-variants.Refused why → k ≡ numberOf why → (record { refusal = k; fresh = false }) ≡ ofFreshness f
+  unfolding ofFreshness
+  fresh-refused why k e q = rw (e, q) refl
+
+pub listed-answer : (l m : Listed) (r : MarkAnswer) → l ≡ m → r ≡ ofListed l → r ≡ ofListed m
+listed-answer l m r e q = q ∙ ap ofListed e
+
+pub fresh-answer : (f g : Freshness) (r : FreshAnswer) → f ≡ g → r ≡ ofFreshness f → r ≡ ofFreshness g
+fresh-answer f g r e q = q ∙ ap ofFreshness e
+
+-- the window as it is handed on
+pub window-found : (s other : List ℕ) (m room : ℕ) (v w : ℤ) (found : List ℕ) → v ≡ w → found ≡ foundAfter s (limitOf v) other m room → found ≡ foundAfter s (limitOf w) other m room
+window-found s other m room v w found e q = rw e at q

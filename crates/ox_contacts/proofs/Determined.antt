@@ -1,0 +1,29 @@
+-- Each exported call's promise is met by one answer. Assumes nothing.
+use mathlib.Core.Path.{sym, _∙_}
+use denote.Ref.{now}
+use Rattle.text.proofs.Once.{Once, OnceWith}
+use Rattle.ox_contacts.proofs.ox_contacts_check.Reads as check
+use Rattle.ox_contacts.proofs.ox_contacts_check.Kinds as check-kinds
+use Rattle.ox_contacts.proofs.ox_contacts_fresh.Reads as fresh
+use Rattle.ox_contacts.proofs.ox_contacts_fresh.Kinds as fresh-kinds
+use Rattle.ox_contacts.proofs.ox_contacts_index.Reads as index
+use Rattle.ox_contacts.proofs.ox_contacts_index.Kinds as index-kinds
+use Rattle.ox_contacts.proofs.ox_contacts_search.Reads as search'
+use Rattle.ox_contacts.proofs.ox_contacts_search.Kinds as search-kinds
+
+ox-contacts-check-once : Once 1 check-kinds.ps check-kinds.r check.Post
+ox-contacts-check-once κs a x y d e p q = p ∙ sym q
+
+ox-contacts-fresh-once : Once 1 fresh-kinds.ps fresh-kinds.r fresh.Post
+ox-contacts-fresh-once κs a x y d e p q = p ∙ sym q
+
+-- the answer and the index
+ox-contacts-index-once : OnceWith 2 index-kinds.ps index-kinds.r (λ κs d. now (d .1 .0)) index.Post
+ox-contacts-index-once κs a x y d e p q = (p .0 ∙ sym (q .0), p .1 ∙ sym (q .1))
+
+-- the answer with the index, and with the numbers found
+ox-contacts-search-index-once : OnceWith 4 search-kinds.ps search-kinds.r (λ κs d. now (d .1 .1 .1 .0)) search'.Post
+ox-contacts-search-index-once κs a x y d e p q = (p .0 ∙ sym (q .0), p .1 .0 ∙ sym (q .1 .0))
+
+ox-contacts-search-found-once : OnceWith 4 search-kinds.ps search-kinds.r (λ κs d. now (d .1 .1 .1 .1 .0)) search'.Post
+ox-contacts-search-found-once κs a x y d e p q = (p .0 ∙ sym (q .0), p .1 .1 ∙ sym (q .1 .1))

@@ -1,0 +1,101 @@
+// Contact lists: checked, their marks compared, indexed and searched. What is not said with an answer is 0 or false.
+ghost use mathlib.Core.Path.{_≡_};
+ghost use lib.ListN.{length};
+ghost use Rattle.times.specs.Window.{limitOf};
+ghost use Rattle.contacts.specs.Lists.{listedAs, freshAgainst};
+ghost use Rattle.index.specs.Index.{indexedAs, indexAfter};
+ghost use Rattle.lookup.specs.Lookup.{searchedAs, foundAfter};
+ghost use Rattle.ox_contacts.specs.Answers.{ofListed, ofFreshness};
+use contacts::Freshness;
+use contacts::Listed;
+
+// A list's mark: how many contacts, and the largest id.
+#[repr(C)]
+pub struct MarkAnswer {
+    pub refusal: u32,
+    pub contacts: usize,
+    pub largest: u64,
+}
+
+#[repr(C)]
+pub struct FreshAnswer {
+    pub refusal: u32,
+    pub fresh: bool,
+}
+
+fn of_listed(listed: Listed) -> MarkAnswer
+    ensures { λ r. ⌜ r ≡ ofListed listed ⌝ }
+{
+    match listed {
+        Listed::Marked { contacts, largest } => MarkAnswer {
+            refusal: 0,
+            contacts: contacts,
+            largest: largest,
+        },
+        Listed::Refused(why) => MarkAnswer {
+            refusal: refusals::number(why),
+            contacts: 0,
+            largest: 0,
+        },
+    }
+}
+
+fn of_freshness(freshness: Freshness) -> FreshAnswer
+    ensures { λ r. ⌜ r ≡ ofFreshness freshness ⌝ }
+{
+    match freshness {
+        Freshness::Fresh => FreshAnswer {
+            refusal: 0,
+            fresh: true,
+        },
+        Freshness::Stale => FreshAnswer {
+            refusal: 0,
+            fresh: false,
+        },
+        Freshness::Refused(why) => FreshAnswer {
+            refusal: refusals::number(why),
+            fresh: false,
+        },
+    }
+}
+
+#[no_mangle]
+pub extern "C" fn ox_contacts_check(list: &[u8]) -> MarkAnswer
+    ensures { λ r. ⌜ r ≡ ofListed (listedAs (now (list .entry))) ⌝ }
+{
+    of_listed(contacts::check(list))
+}
+
+// Whether a plan with this mark is fresh against a list.
+#[no_mangle]
+pub extern "C" fn ox_contacts_fresh(contacts: usize, largest: u64, list: &[u8]) -> FreshAnswer
+    ensures { λ r. ⌜ r ≡ ofFreshness (freshAgainst contacts largest (now (list .entry))) ⌝ }
+{
+    of_freshness(contacts::is_fresh(contacts, largest, list))
+}
+
+// The index of a list, in one record of 14 numbers a contact; zero throughout after a refusal.
+#[no_mangle]
+pub extern "C" fn ox_contacts_index(list: &[u8], index: &mut [[u32; 14]]) -> MarkAnswer
+    ensures { λ r. ⌜ r ≡ ofListed (indexedAs (now (list .entry)) (length (now (index .entry)))) ⌝ }
+    ensures { λ _. ⌜ now (index .exit) ≡ indexAfter (now (list .entry)) (length (now (index .entry))) ⌝ }
+{
+    of_listed(index::build(list, index))
+}
+
+// For each contact of the other list the number, from 1, of the first contact of the list that it matches within the window, or 0.
+// The answer is the other list's mark.
+#[no_mangle]
+pub extern "C" fn ox_contacts_search(
+    list: &[u8],
+    other: &[u8],
+    window: i64,
+    index: &mut [[u32; 14]],
+    found: &mut [u64],
+) -> MarkAnswer
+    ensures { λ r. ⌜ r ≡ ofListed (searchedAs (now (list .entry)) (now (other .entry)) (length (now (index .entry))) (length (now (found .entry)))) ⌝ }
+    ensures { λ _. ⌜ now (index .exit) ≡ indexAfter (now (list .entry)) (length (now (index .entry))) ⌝ }
+    ensures { λ _. ⌜ now (found .exit) ≡ foundAfter (now (list .entry)) (limitOf window) (now (other .entry)) (length (now (index .entry))) (length (now (found .entry))) ⌝ }
+{
+    of_listed(lookup::look_up(list, other, window, index, found))
+}

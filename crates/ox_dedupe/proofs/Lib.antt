@@ -1,0 +1,2 @@
+pub mod DuplicateAnswers
+pub mod Determined

@@ -1,0 +1,3 @@
+pub mod CountLaws
+pub mod FateLaws
+pub mod Determined

@@ -1,0 +1,6 @@
+pub mod Entry
+pub mod Fates
+pub mod Confirmed
+pub mod Plan
+pub mod Examples
+pub mod Shown

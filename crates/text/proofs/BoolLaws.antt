@@ -1,0 +1,24 @@
+-- Laws of tests (`specs/Pick.antt`). Assumes nothing.
+use mathlib.Core.Path.{_≡_, refl, sym, _∙_}
+use mathlib.Core.Bool.{Bool, true, false, true≢false}
+use Rattle.text.specs.Pick.{both}
+
+-- by what a test says
+pub cases : {P : Type 0} (t : Bool) → (t ≡ true → P) → (t ≡ false → P) → P
+cases true f g = f refl
+cases false f g = g refl
+
+-- no test says both
+pub never : {P : Type 0} (t : Bool) → t ≡ true → t ≡ false → P
+never t a b = absurd (true≢false (sym a ∙ b))
+
+pub both-left : (a b : Bool) → both a b ≡ true → a ≡ true
+both-left true b e = refl
+both-left false b e = e
+
+pub both-right : (a b : Bool) → both a b ≡ true → b ≡ true
+both-right true b e = e
+both-right false b e = never false e refl
+
+pub both-true : (a b : Bool) → a ≡ true → b ≡ true → both a b ≡ true
+both-true a b p q = rw (p, q) refl

@@ -1,0 +1,54 @@
+// Whether a record can be made into a contact, and why not. After `check` of `import.rs`.
+ghost use mathlib.Core.Path.{_≡_};
+ghost use Rattle.text.specs.Space.{blank, trimmed};
+ghost use Rattle.decimal.specs.Decimal.{allDigits};
+ghost use Rattle.contacts.specs.Contacts.{isDate, isTime};
+ghost use Rattle.usable.specs.Reasons.{reasonBy};
+
+fn all_digits(s: &[u8]) -> bool
+    ensures { λ r. ⌜ r ≡ allDigits (now (s .entry)) ⌝ }
+{
+    let mut i = 0;
+    while i < s.len() {
+        if !text::inside(s[i], 0x30, 0x39) {
+            return false;
+        }
+        i += 1;
+    }
+    true
+}
+
+fn is_date(d: &[u8]) -> bool
+    ensures { λ r. ⌜ r ≡ isDate (now (d .entry)) ⌝ }
+{
+    text::all(d.len() == 8, all_digits(d))
+}
+
+fn is_time(t: &[u8]) -> bool
+    ensures { λ r. ⌜ r ≡ isTime (now (t .entry)) ⌝ }
+{
+    text::all(text::any(t.len() == 4, t.len() == 6), all_digits(t))
+}
+
+// The reason of a record with this call, date and time, or 0: `blank_mode` where its mode is blank, `inexact` where the mapping refused a
+// frequency.
+pub fn check(call: &[u8], date: &[u8], time: &[u8], blank_mode: bool, inexact: bool) -> u32
+    ensures { λ r. ⌜ r ≡ reasonBy (blank (now (call .entry))) (isDate (trimmed (now (date .entry)))) (isTime (trimmed (now (time .entry)))) «blank_mode» inexact ⌝ }
+{
+    if text::space::is_blank(call) {
+        return 1;
+    }
+    if !is_date(text::space::trim(date)) {
+        return 2;
+    }
+    if !is_time(text::space::trim(time)) {
+        return 3;
+    }
+    if blank_mode {
+        return 4;
+    }
+    if inexact {
+        return 5;
+    }
+    0
+}
