@@ -52,9 +52,8 @@ pub fn written(contacts: &[Contact]) -> Vec<u8> {
 }
 
 fn is_sound(contact: &Contact) -> bool {
-    let digits = |text: &[u8], lengths: &[usize]| {
-        lengths.contains(&text.len()) && text.iter().all(|b| b.is_ascii_digit())
-    };
+    let digits =
+        |text: &[u8], lengths: &[usize]| lengths.contains(&text.len()) && text.iter().all(|b| b.is_ascii_digit());
     (1..1 << 63).contains(&contact.id)
         && contact.services < 16
         && contact.texts().iter().all(|text| std::str::from_utf8(text).is_ok())
@@ -452,7 +451,8 @@ fn writes(g: &mut Group) {
         let room = (written(&contacts).len() + g.random.place(20)).saturating_sub(g.random.place(12));
         let mut out: Vec<u8> = (0..room).map(|i| i as u8).collect();
         let mut expected = out.clone();
-        let start = if room < 5 { AppendAnswer { refusal: 13, length: 0 } } else { AppendAnswer { refusal: 0, length: 5 } };
+        let start =
+            if room < 5 { AppendAnswer { refusal: 13, length: 0 } } else { AppendAnswer { refusal: 0, length: 5 } };
         if room >= 5 {
             expected[..5].copy_from_slice(&[1, 0, 0, 0, 0]);
         }
@@ -492,8 +492,14 @@ fn writes(g: &mut Group) {
     let contact = Contact { date: b"20260301".to_vec(), time: b"1200".to_vec(), ..contact };
     let [call, date, time, band, mode] = contact.texts().map(|t| &t[..]);
     let given = sys::Contact { id: 9, services: 0, call, date, time, band, mode };
-    let cases =
-        [(4, 0, 17), (0, 0, 17), (LONGEST + 1, 0, 17), (5, u32::MAX as usize, 17), (usize::MAX, 0, 17), (LONGEST, 1, 1)];
+    let cases = [
+        (4, 0, 17),
+        (0, 0, 17),
+        (LONGEST + 1, 0, 17),
+        (5, u32::MAX as usize, 17),
+        (usize::MAX, 0, 17),
+        (LONGEST, 1, 1),
+    ];
     for (used, count, refusal) in cases {
         let answer = sys::contacts_append(&mut out, used, count, 3, given);
         g.same(used as u64, (answer, out == before), (AppendAnswer { refusal, length: 0 }, true));

@@ -336,13 +336,7 @@ pub fn contacts_fresh(contacts: usize, largest: u64, list: &[u8]) -> FreshAnswer
 pub fn contacts_index(list: &[u8], index: &mut [Record]) -> MarkAnswer {
     unsafe { c::ox_contacts_index(list.as_ptr(), list.len(), index.as_mut_ptr(), index.len()) }
 }
-pub fn contacts_search(
-    list: &[u8],
-    other: &[u8],
-    window: i64,
-    index: &mut [Record],
-    found: &mut [u64],
-) -> MarkAnswer {
+pub fn contacts_search(list: &[u8], other: &[u8], window: i64, index: &mut [Record], found: &mut [u64]) -> MarkAnswer {
     let (records, numbers) = (index.len(), found.len());
     let (index, found) = (index.as_mut_ptr(), found.as_mut_ptr());
     let (other, other_length) = (other.as_ptr(), other.len());
