@@ -3,7 +3,7 @@
 use crate::generate::{Random, damage, utf8};
 use crate::harness::{Group, Run};
 use oxbreathe::LONGEST;
-use oxbreathe::sys::{self, FreshAnswer, MarkAnswer, Record};
+use oxbreathe::sys::{self, AppendAnswer, FreshAnswer, MarkAnswer, Record};
 
 pub fn run(run: &mut Run) {
     run.group("contacts/lists", lists);
@@ -13,6 +13,7 @@ pub fn run(run: &mut Run) {
     run.group("contacts/indexes", indexes);
     run.group("contacts/searches", searches);
     run.group("contacts/large", large);
+    run.group("contacts/written", writes);
 }
 
 #[derive(Clone, Debug, Default, PartialEq)]
@@ -436,5 +437,82 @@ fn large(g: &mut Group) {
                 g.same(&list[..0], ours, theirs);
             }
         }
+    }
+}
+
+/// Contacts appended one by one, good and bad, into outputs that are long enough and that are not.
+fn writes(g: &mut Group) {
+    for _ in 0..g.depth(300, 50_000) {
+        let count = g.random.place(6);
+        let mut contacts = some(&mut g.random, count, any);
+        if let Some(contact) = contacts.last_mut().filter(|_| g.random.below(3) == 0) {
+            spoil(&mut g.random, contact);
+        }
+        let room = (written(&contacts).len() + g.random.place(20)).saturating_sub(g.random.place(12));
+        let mut out: Vec<u8> = (0..room).map(|i| i as u8).collect();
+        let mut expected = out.clone();
+        let start =
+            if room < 5 { AppendAnswer { refusal: 13, length: 0 } } else { AppendAnswer { refusal: 0, length: 5 } };
+        if room >= 5 {
+            expected[..5].copy_from_slice(&[1, 0, 0, 0, 0]);
+        }
+        let answer = sys::contacts_start(&mut out);
+        g.same(&expected[..], (answer, &out), (start, &expected));
+        let mut taken: Vec<Contact> = Vec::new();
+        let mut used = 5;
+        for contact in contacts.iter().filter(|_| room >= 5) {
+            let largest = taken.last().map_or(0, |c| c.id);
+            let texts = contact.texts().map(|t| &t[..]);
+            let [call, date, time, band, mode] = texts;
+            let given = sys::Contact { id: contact.id, services: contact.services, call, date, time, band, mode };
+            let end = used + 16 + texts.iter().map(|t| t.len()).sum::<usize>();
+            let long = texts.iter().any(|t| t.len() > 255);
+            let refusal = match () {
+                _ if long || !is_sound(contact) => 17,
+                _ if contact.id <= largest => 18,
+                _ if end > room => 13,
+                _ => 0,
+            };
+            if refusal == 0 {
+                taken.push(contact.clone());
+                expected[..end].copy_from_slice(&written(&taken));
+            }
+            let answer = sys::contacts_append(&mut out, used, taken.len() - (refusal == 0) as usize, largest, given);
+            let length = if refusal == 0 { end } else { 0 };
+            g.same(&expected[..], (answer, &out), (AppendAnswer { refusal, length }, &expected));
+            if refusal == 0 {
+                used = end;
+            }
+        }
+    }
+    // bytes that are no list, a count that cannot grow, and a list that would be too long
+    let mut out = vec![7; LONGEST + 300];
+    let before = out.clone();
+    let contact = alike(&mut g.random, 9);
+    let contact = Contact { date: b"20260301".to_vec(), time: b"1200".to_vec(), ..contact };
+    let [call, date, time, band, mode] = contact.texts().map(|t| &t[..]);
+    let given = sys::Contact { id: 9, services: 0, call, date, time, band, mode };
+    let cases = [
+        (4, 0, 17),
+        (0, 0, 17),
+        (LONGEST + 1, 0, 17),
+        (5, u32::MAX as usize, 17),
+        (usize::MAX, 0, 17),
+        (LONGEST, 1, 1),
+    ];
+    for (used, count, refusal) in cases {
+        let answer = sys::contacts_append(&mut out, used, count, 3, given);
+        g.same(used as u64, (answer, out == before), (AppendAnswer { refusal, length: 0 }, true));
+    }
+}
+
+fn spoil(random: &mut Random, contact: &mut Contact) {
+    match random.below(6) {
+        0 => contact.id = random.pick(&[0, 1, 1 << 63, u64::MAX]),
+        1 => contact.services = 16 + random.below(240) as u8,
+        2 => contact.call = vec![b'A'; 256 + random.place(300)],
+        3 => contact.band.push(0xC3),
+        4 => contact.date.push(b'0'),
+        _ => contact.time[0] = b':',
     }
 }

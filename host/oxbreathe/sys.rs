@@ -207,6 +207,26 @@ pub struct FreshAnswer {
     pub fresh: bool,
 }
 
+/// How many bytes a list has after a contact was appended.
+#[repr(C)]
+#[derive(Clone, Copy, Debug, Default, PartialEq, Eq)]
+pub struct AppendAnswer {
+    pub refusal: u32,
+    pub length: usize,
+}
+
+/// A contact to be written.
+#[derive(Clone, Copy, Debug, Default, PartialEq, Eq)]
+pub struct Contact<'a> {
+    pub id: u64,
+    pub services: u8,
+    pub call: &'a [u8],
+    pub date: &'a [u8],
+    pub time: &'a [u8],
+    pub band: &'a [u8],
+    pub mode: &'a [u8],
+}
+
 /// What the contact index keeps of a contact.
 pub type Record = [u32; 14];
 
@@ -332,6 +352,26 @@ mod c {
         pub fn ox_contacts_check(list: *const u8, length: usize) -> MarkAnswer;
         pub fn ox_contacts_fresh(contacts: usize, largest: u64, list: *const u8, length: usize) -> FreshAnswer;
         pub fn ox_contacts_index(list: *const u8, length: usize, index: *mut Record, records: usize) -> MarkAnswer;
+        pub fn ox_contacts_start(out: *mut u8, length: usize) -> AppendAnswer;
+        pub fn ox_contacts_append(
+            out: *mut u8,
+            length: usize,
+            used: usize,
+            contacts: usize,
+            largest: u64,
+            id: u64,
+            services: u8,
+            call: *const u8,
+            call_length: usize,
+            date: *const u8,
+            date_length: usize,
+            time: *const u8,
+            time_length: usize,
+            band: *const u8,
+            band_length: usize,
+            mode: *const u8,
+            mode_length: usize,
+        ) -> AppendAnswer;
         pub fn ox_contacts_search(
             list: *const u8,
             length: usize,
@@ -507,5 +547,32 @@ pub fn contacts_search(list: &[u8], other: &[u8], window: i64, index: &mut [Reco
     let (other, other_length) = (other.as_ptr(), other.len());
     unsafe {
         c::ox_contacts_search(list.as_ptr(), list.len(), other, other_length, window, index, records, found, numbers)
+    }
+}
+pub fn contacts_start(out: &mut [u8]) -> AppendAnswer {
+    unsafe { c::ox_contacts_start(out.as_mut_ptr(), out.len()) }
+}
+pub fn contacts_append(out: &mut [u8], used: usize, contacts: usize, largest: u64, contact: Contact) -> AppendAnswer {
+    let Contact { id, services, call, date, time, band, mode } = contact;
+    unsafe {
+        c::ox_contacts_append(
+            out.as_mut_ptr(),
+            out.len(),
+            used,
+            contacts,
+            largest,
+            id,
+            services,
+            call.as_ptr(),
+            call.len(),
+            date.as_ptr(),
+            date.len(),
+            time.as_ptr(),
+            time.len(),
+            band.as_ptr(),
+            band.len(),
+            mode.as_ptr(),
+            mode.len(),
+        )
     }
 }

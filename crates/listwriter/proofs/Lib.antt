@@ -1,1 +1,5 @@
 pub mod ReadBack
+pub mod PartLaws
+pub mod AppendLaws
+pub mod Appending
+pub mod Determined

@@ -66,7 +66,7 @@ module _ (s pre t post : List ℕ) (at : ℕ) (e : s ≡ pre ++ (counted t ++ po
   after-back = rw size-back (omega (arith, length-append pre (counted t)))
 
 -- ---- an entry
-small : (call date time band mode : List ℕ) → soundTexts call date time band mode ≡ true → (length call ≤ 255) × (length date ≤ 255) × (length time ≤ 255) × (length band ≤ 255) × (length mode ≤ 255)
+pub small : (call date time band mode : List ℕ) → soundTexts call date time band mode ≡ true → (length call ≤ 255) × (length date ≤ 255) × (length time ≤ 255) × (length band ≤ 255) × (length mode ≤ 255)
 unfolding soundTexts plain isDate isTime
 small call date time band mode e =
     let a = both-left (plain call) _ e in
@@ -91,10 +91,10 @@ small call date time band mode e =
         (λ u. let v : eqb n 6 ≡ true = rw u at e in omega (arith, eqb-true n 6 v))
 
 module _ (id services : ℕ) (call date time band mode : List ℕ) where
-  abbrev body : List ℕ
+  abbrev pub body : List ℕ
   body = bodyText (contact id services call date time band mode)
 
-  body-length : length body ≡ 14 + length call + length date + length time + length band + length mode
+  pub body-length : length body ≡ 14 + length call + length date + length time + length band + length mode
   unfolding bodyText
   body-length =
       simp length-append (omega (arith, bytes-length 8 id))
@@ -233,7 +233,7 @@ id-of : (s : List ℕ) (at id services : ℕ) (call date time band mode : List �
 unfolding contactAt
 id-of s at id services call date time band mode e = ap idOf e
 
-abbrev lastOf : ℕ → List Contact → ℕ
+abbrev pub lastOf : ℕ → List Contact → ℕ
 lastOf last [] = last
 lastOf last (c ∷ cs) = lastOf (idOf c) cs
 
@@ -272,7 +272,7 @@ largest-last (c ∷ cs) last g =
     let k = largest-last cs (idOf c) (both-right (ltb last (idOf c)) _ r) in
     larger-right last (larger (idOf c) (largest cs)) (omega (arith, larger-over (idOf c) (largest cs))) ∙ k
 
-largest-is : (cs : List Contact) → soundFrom 0 cs ≡ true → lastOf 0 cs ≡ largest cs
+pub largest-is : (cs : List Contact) → soundFrom 0 cs ≡ true → lastOf 0 cs ≡ largest cs
 largest-is cs g = sym (largest-last cs 0 g) ∙ larger-right 0 (largest cs) (omega arith)
 
 -- ---- the list

@@ -1,5 +1,6 @@
 -- For each contact of another list, the first contact of the list that it matches.
 use Prim.Native.Nat.{ℕ, zero, suc, _-_}
+use mathlib.Core.Path.{_≡_, refl}
 use mathlib.Core.List.{List, [], _∷_, _++_, map}
 use lib.ListN.{replicate}
 use lib.Dec.{ltb}
@@ -36,3 +37,8 @@ foundAfter s limit other m room = foundBy (searchedAs s other m room) s limit ot
 unfoldable pub matchesFrom : List ℕ → ℕ → List ℕ → ℕ → ℕ → List ℕ
 matchesFrom s limit other zero at = []
 matchesFrom s limit other (suc k) at = matchFor s limit (contactAt other at) ∷ matchesFrom s limit other k (endAt other at)
+
+-- one contact to look up, and no number lent for it
+no-number : searchedBy 0 (Marked 3 9) (Marked 1 7) ≡ Refused ShortTable
+unfolding searchedBy
+no-number = refl

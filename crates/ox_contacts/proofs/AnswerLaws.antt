@@ -12,7 +12,10 @@ use Rattle.contacts.specs.declared.Listed.{Listed}
 use Rattle.contacts.specs.declared.Listed.the-variants.{Marked, Refused}
 use Rattle.contacts.specs.declared.Freshness.{Freshness}
 use Rattle.contacts.specs.declared.Freshness.the-variants
-use Rattle.ox_contacts.specs.Answers.{ofListed, ofFreshness}
+use Rattle.ox_contacts.specs.Answers.{ofListed, ofFreshness, ofAppended}
+use Rattle.listwriter.specs.declared.Appended.{Appended}
+use Rattle.listwriter.specs.declared.Appended.the-variants as appended
+use Rattle.ox_contacts.specs.declared.AppendAnswer.{AppendAnswer}
 use Rattle.ox_contacts.specs.declared.MarkAnswer.{MarkAnswer}
 use Rattle.ox_contacts.specs.declared.FreshAnswer.{FreshAnswer}
 
@@ -47,3 +50,15 @@ fresh-answer f g r e q = q ∙ ap ofFreshness e
 -- the window as it is handed on
 pub window-found : (s other : List ℕ) (m room : ℕ) (v w : ℤ) (found : List ℕ) → v ≡ w → found ≡ foundAfter s (limitOf v) other m room → found ≡ foundAfter s (limitOf w) other m room
 window-found s other m room v w found e q = rw e at q
+
+module _ (a : Appended) where
+  pub appended-bytes : (n : ℕ) → a ≡ appended.Bytes n → (record { refusal = 0; length = n }) ≡ ofAppended a
+  unfolding ofAppended
+  appended-bytes n e = rw e refl
+
+  pub appended-refused : (why : Refusal) (k : ℕ) → a ≡ appended.Refused why → k ≡ numberOf why → (record { refusal = k; length = 0 }) ≡ ofAppended a
+  unfolding ofAppended
+  appended-refused why k e q = rw (e, q) refl
+
+pub appended-answer : (a b : Appended) (r : AppendAnswer) → a ≡ b → r ≡ ofAppended a → r ≡ ofAppended b
+appended-answer a b r e q = q ∙ ap ofAppended e

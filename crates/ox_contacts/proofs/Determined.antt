@@ -10,6 +10,10 @@ use Rattle.ox_contacts.proofs.ox_contacts_index.Reads as index
 use Rattle.ox_contacts.proofs.ox_contacts_index.Kinds as index-kinds
 use Rattle.ox_contacts.proofs.ox_contacts_search.Reads as search'
 use Rattle.ox_contacts.proofs.ox_contacts_search.Kinds as search-kinds
+use Rattle.ox_contacts.proofs.ox_contacts_start.Reads as start
+use Rattle.ox_contacts.proofs.ox_contacts_start.Kinds as start-kinds
+use Rattle.ox_contacts.proofs.ox_contacts_append.Reads as append
+use Rattle.ox_contacts.proofs.ox_contacts_append.Kinds as append-kinds
 
 ox-contacts-check-once : Once 1 check-kinds.ps check-kinds.r check.Post
 ox-contacts-check-once κs a x y d e p q = p ∙ sym q
@@ -27,3 +31,10 @@ ox-contacts-search-index-once κs a x y d e p q = (p .0 ∙ sym (q .0), p .1 .0 
 
 ox-contacts-search-found-once : OnceWith 4 search-kinds.ps search-kinds.r (λ κs d. now (d .1 .1 .1 .1 .0)) search'.Post
 ox-contacts-search-found-once κs a x y d e p q = (p .0 ∙ sym (q .0), p .1 .1 ∙ sym (q .1 .1))
+
+-- the answer and the output
+ox-contacts-start-once : OnceWith 1 start-kinds.ps start-kinds.r (λ κs d. now (d .0)) start.Post
+ox-contacts-start-once κs a x y d e p q = (p .0 ∙ sym (q .0), p .1 ∙ sym (q .1))
+
+ox-contacts-append-once : OnceWith 6 append-kinds.ps append-kinds.r (λ κs d. now (d .0)) append.Post
+ox-contacts-append-once κs a x y d e p q = (p .0 ∙ sym (q .0), p .1 ∙ sym (q .1))

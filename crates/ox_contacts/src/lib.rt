@@ -1,13 +1,16 @@
-// Contact lists: checked, their marks compared, indexed and searched. What is not said with an answer is 0 or false.
+// Contact lists: checked, their marks compared, indexed, searched and written. What is not said with an answer is 0 or false.
 ghost use mathlib.Core.Path.{_≡_};
 ghost use lib.ListN.{length};
 ghost use Rattle.times.specs.Window.{limitOf};
+ghost use Rattle.contacts.specs.Contacts.{contact};
 ghost use Rattle.contacts.specs.Lists.{listedAs, freshAgainst};
 ghost use Rattle.index.specs.Index.{indexedAs, indexAfter};
 ghost use Rattle.lookup.specs.Lookup.{searchedAs, foundAfter};
-ghost use Rattle.ox_contacts.specs.Answers.{ofListed, ofFreshness};
+ghost use Rattle.listwriter.specs.Append.{startAs, startAfter, appendAs, appendAfter};
+ghost use Rattle.ox_contacts.specs.Answers.{ofListed, ofFreshness, ofAppended};
 use contacts::Freshness;
 use contacts::Listed;
+use listwriter::Appended;
 
 // A list's mark: how many contacts, and the largest id.
 #[repr(C)]
@@ -98,4 +101,68 @@ pub extern "C" fn ox_contacts_search(
     ensures { λ _. ⌜ now (found .exit) ≡ foundAfter (now (list .entry)) (limitOf window) (now (other .entry)) (length (now (index .entry))) (length (now (found .entry))) ⌝ }
 {
     of_listed(lookup::look_up(list, other, window, index, found))
+}
+
+// How many bytes the list now has.
+#[repr(C)]
+pub struct AppendAnswer {
+    pub refusal: u32,
+    pub length: usize,
+}
+
+fn of_appended(appended: Appended) -> AppendAnswer
+    ensures { λ r. ⌜ r ≡ ofAppended appended ⌝ }
+{
+    match appended {
+        Appended::Bytes(length) => AppendAnswer {
+            refusal: 0,
+            length: length,
+        },
+        Appended::Refused(why) => AppendAnswer {
+            refusal: refusals::number(why),
+            length: 0,
+        },
+    }
+}
+
+// A list with no contact yet.
+#[no_mangle]
+pub extern "C" fn ox_contacts_start(out: &mut [u8]) -> AppendAnswer
+    ensures { λ r. ⌜ r ≡ ofAppended (startAs (length (now (out .entry)))) ⌝ }
+    ensures { λ _. ⌜ now (out .exit) ≡ startAfter (now (out .entry)) ⌝ }
+{
+    of_appended(listwriter::start(out))
+}
+
+// A contact behind a list of `used` bytes, whose mark is told.
+#[no_mangle]
+pub extern "C" fn ox_contacts_append(
+    out: &mut [u8],
+    used: usize,
+    contacts: usize,
+    largest: u64,
+    id: u64,
+    services: u8,
+    call: &[u8],
+    date: &[u8],
+    time: &[u8],
+    band: &[u8],
+    mode: &[u8],
+) -> AppendAnswer
+    ensures { λ r. ⌜ r ≡ ofAppended (appendAs used contacts largest (contact id services (now (call .entry)) (now (date .entry)) (now (time .entry)) (now (band .entry)) (now (mode .entry))) (length (now (out .entry)))) ⌝ }
+    ensures { λ _. ⌜ now (out .exit) ≡ appendAfter used contacts largest (contact id services (now (call .entry)) (now (date .entry)) (now (time .entry)) (now (band .entry)) (now (mode .entry))) (now (out .entry)) ⌝ }
+{
+    of_appended(listwriter::append(
+        out,
+        used,
+        contacts,
+        largest,
+        id,
+        services,
+        call,
+        date,
+        time,
+        band,
+        mode,
+    ))
 }
