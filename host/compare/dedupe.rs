@@ -12,6 +12,7 @@ pub fn run(run: &mut Run) {
     run.group("dedupe/days", days);
     run.group("dedupe/times", times);
     run.group("dedupe/malformed", malformed);
+    run.group("dedupe/looser", looser);
     run.group("dedupe/windows", windows);
     run.group("dedupe/keys", keys);
     run.group("dedupe/refused", refused);
@@ -30,7 +31,7 @@ fn ours(date: &[u8], time: &[u8]) -> (u32, Option<u64>) {
 }
 
 fn compare(g: &mut Group, date: &str, time: &str) {
-    g.same(&format!("{date} {time}"), ours(date.as_bytes(), time.as_bytes()), (0, theirs(date, time)));
+    g.same((date, time), ours(date.as_bytes(), time.as_bytes()), (0, theirs(date, time)));
 }
 
 /// Every day of every year, and the days that no month has.
@@ -53,7 +54,7 @@ fn times(g: &mut Group) {
     let step = g.depth(997, 7) as usize;
     for time in (0..1_000_000).step_by(step) {
         match time % 100 {
-            60 => g.same(&format!("{time:06}"), ours(b"20260301", format!("{time:06}").as_bytes()), (0, None)),
+            60 => g.same(time as u64, ours(b"20260301", format!("{time:06}").as_bytes()), (0, None)),
             _ => compare(g, "20240229", &format!("{time:06}")),
         }
     }
@@ -78,8 +79,22 @@ fn malformed(g: &mut Group) {
         let (date, time) = (made(&mut g.random, "20260301"), made(&mut g.random, "1200"));
         match digits(&date, &[8]) && digits(&time, &[4, 6]) && !time.trim()[4..].starts_with("60") {
             true => compare(g, &date, &time),
-            false => g.same(&format!("{date:?} {time:?}"), ours(date.as_bytes(), time.as_bytes()), (0, None)),
+            false => g.same((&*date, &*time), ours(date.as_bytes(), time.as_bytes()), (0, None)),
         }
+    }
+}
+
+/// Where chrono is looser: what it takes each for, and that it names no moment here.
+fn looser(g: &mut Group) {
+    for (date, time, taken) in [
+        ("2026031", "1200", "20260311 200000"),
+        ("2026 0301", "1200", "20260301 120000"),
+        ("20260301", "120060", "20260301 120059"),
+    ] {
+        let (day, clock) = taken.split_once(' ').expect("two texts");
+        let second = u64::from(time.ends_with("60"));
+        let ours = ours(date.as_bytes(), time.as_bytes());
+        g.same((date, time), (ours, theirs(date, time)), ((0, None), theirs(day, clock).map(|at| at + second)));
     }
 }
 
@@ -112,7 +127,7 @@ fn both(fields: &[(&str, &str)], normal: bool) -> Both {
 /// Windows at the difference, one below, one above, and at the ends of their numbers.
 fn windows(g: &mut Group) {
     const DATES: [&str; 8] =
-        ["20260301", "20260228", " 20260301", "20260231", "00000101", "99991231", "2026031", "20240229"];
+        ["20260301", "20260228", " 20260301", "20260231", "00000101", "99991231", "2026x301", "20240229"];
     const TIMES: [&str; 9] = ["1200", "120000", "122959", "123000", "123001", "2359", " 0000 ", "2400", "12:00"];
     for _ in 0..g.depth(3_000, 200_000) {
         let mut contact = || both(&[("QSO_DATE", g.random.pick(&DATES)), ("TIME_ON", g.random.pick(&TIMES))], false);
@@ -125,7 +140,7 @@ fn windows(g: &mut Group) {
         for window in [apart - 1, apart, apart + 1, 0, -1, 1_800, i64::MIN, i64::MAX, g.random.next() as i64] {
             let ours = sys::within_window(&a.text, a.qso, &b.text, b.qso, window);
             let said = dedupe::within_window(&a.theirs, &b.theirs, window);
-            g.same(&format!("{:?} {:?} {window}", a.theirs, b.theirs), (ours.refusal, ours.yes), (0, said));
+            g.same((&*a.text, &*b.text, window as u64), (ours.refusal, ours.yes), (0, said));
         }
     }
 }
@@ -162,7 +177,7 @@ fn keys(g: &mut Group) {
         ];
         let said =
             [in_log, trimmed(p) == trimmed(q), dedupe::same_natural_key(p, q), dedupe::is_duplicate(p, q, 1_800)];
-        g.same(&format!("{p:?} {q:?}"), ours.map(|o| (o.refusal, o.yes)), said.map(|yes| (0, yes)));
+        g.same((&*a.text, &*b.text), ours.map(|o| (o.refusal, o.yes)), said.map(|yes| (0, yes)));
     }
 }
 
