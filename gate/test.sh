@@ -2,6 +2,8 @@
 # The gate: the layout of the sources, every proof, must-fail edit and program, and the library beside Rust's std and
 # the original. Each part runs whatever the others said. The last line is `N passed, M failed`.
 set -u
+# a prover waits where others of its level or batch still run: more of them than processors keep all processors busy
+export RT_JOBS="${RT_JOBS:-$((3 * $(nproc)))}"
 cd "$(dirname "$0")/.." || exit 1
 log=$(mktemp -d)
 trap 'rm -rf "$log"' EXIT

@@ -7,7 +7,6 @@ use normalize::modes;
 use notation::put_byte;
 use tables::Name;
 use tables::Place;
-use tables::bands;
 use tables::places;
 
 const LONGEST: usize = 16_777_216;

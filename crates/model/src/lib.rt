@@ -13,7 +13,6 @@ use normalize::modes;
 use refusals::Refusal;
 use refusals::Verdict;
 use tables::Place;
-use tables::bands;
 use tables::places;
 
 // A frequency in hertz, if one is given.

@@ -17,7 +17,6 @@ use refusals::check_texts;
 use tables::Name;
 use tables::Place;
 use tables::Span;
-use tables::bands;
 use tables::places;
 
 #[repr(C)]

@@ -6,14 +6,6 @@ use denote.Ref.{now}
 use borrow.Fn.Kinds.{Dens, resT, endedOf}
 use Rattle.text.proofs.Once.{Once}
 use Rattle.tables.specs.Table.{Keyed}
-use Rattle.tables.proofs.bands.band_for_freq_hz.Reads as band-for-freq-hz
-use Rattle.tables.proofs.bands.band_for_freq_hz.Kinds as band-for-freq-hz-kinds
-use Rattle.tables.proofs.bands.canonical_band.Reads as canonical-band
-use Rattle.tables.proofs.bands.canonical_band.Kinds as canonical-band-kinds
-use Rattle.tables.proofs.bands.is_known_band.Reads as is-known-band
-use Rattle.tables.proofs.bands.is_known_band.Kinds as is-known-band-kinds
-use Rattle.tables.proofs.bands.known_bands.Reads as known-bands
-use Rattle.tables.proofs.bands.known_bands.Kinds as known-bands-kinds
 use Rattle.tables.proofs.places.absent.Reads as absent
 use Rattle.tables.proofs.places.absent.Kinds as absent-kinds
 use Rattle.tables.proofs.places.stands.Reads as stands
@@ -64,18 +56,6 @@ text-key-once κs a x y d e p q = p .0 ∙ sym (q .0)
 
 first-key-once : Once 1 first-key-kinds.ps first-key-kinds.r first-key.Post
 first-key-once κs a x y d e p q = p ∙ sym q
-
-band-for-freq-hz-once : Once 0 band-for-freq-hz-kinds.ps band-for-freq-hz-kinds.r band-for-freq-hz.Post
-band-for-freq-hz-once κs a x y d e p q = p ∙ sym q
-
-canonical-band-once : Once 1 canonical-band-kinds.ps canonical-band-kinds.r canonical-band.Post
-canonical-band-once κs a x y d e p q = p ∙ sym q
-
-is-known-band-once : Once 1 is-known-band-kinds.ps is-known-band-kinds.r is-known-band.Post
-is-known-band-once κs a x y d e p q = p ∙ sym q
-
-known-bands-once : Once 0 known-bands-kinds.ps known-bands-kinds.r known-bands.Post
-known-bands-once κs a x y d e p q = p ∙ sym q
 
 absent-once : Once 0 absent-kinds.ps absent-kinds.r absent.Post
 absent-once κs a x y d e p q = p ∙ sym q

@@ -3,5 +3,4 @@ pub mod TableLaws
 pub mod EntryLaws
 pub mod KeyLaws
 pub mod PlaceLaws
-pub mod BandTheorems
 pub mod Determined

@@ -2,7 +2,7 @@ use Rattle.model.proofs.PlaceLaws.{band-given, band-none}
 use borrow.Author.Needs.{needs}
 use Rattle.model.proofs.band_at.Statement.{statement}
 use Rattle.model.proofs.band_at.Tie as tie
-use Rattle.tables.proofs.bands.band_for_freq_hz.Reads as band-for-freq-hz-reads
+use Rattle.bands.proofs.band_for_freq_hz.Reads as band-for-freq-hz-reads
 use Rattle.tables.proofs.places.absent.Reads as absent-reads
 
 band-for-freq-hz-requires : tie.Need-band-for-freq-hz-requires

@@ -2,7 +2,7 @@ use Rattle.model.proofs.PlaceLaws.{known-band}
 use borrow.Author.Needs.{needs}
 use Rattle.model.proofs.known_band.Statement.{statement}
 use Rattle.model.proofs.known_band.Tie as tie
-use Rattle.tables.proofs.bands.canonical_band.Reads as canonical-band-reads
+use Rattle.bands.proofs.canonical_band.Reads as canonical-band-reads
 use Rattle.tables.proofs.places.part.Reads as part-reads
 
 part-requires : tie.Need-part-requires

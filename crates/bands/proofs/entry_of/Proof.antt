@@ -1,6 +1,6 @@
 use borrow.Author.Needs.{needs}
-use Rattle.tables.proofs.bands.entry_of.Statement.{statement}
-use Rattle.tables.proofs.bands.entry_of.Tie as tie
+use Rattle.bands.proofs.entry_of.Statement.{statement}
+use Rattle.bands.proofs.entry_of.Tie as tie
 
 enum-known-f : tie.Need-enum-known-f
 enum-known-f c = search needs

@@ -1,7 +1,7 @@
 use mathlib.Core.Path.{refl}
 use Rattle.tables.specs.Bands.{bands, everyBand}
-use Rattle.tables.proofs.bands.known_bands.Statement.{statement}
-use Rattle.tables.proofs.bands.known_bands.Tie as tie
+use Rattle.bands.proofs.known_bands.Statement.{statement}
+use Rattle.bands.proofs.known_bands.Tie as tie
 
 returns : tie.Need-returns
 unfolding everyBand bands

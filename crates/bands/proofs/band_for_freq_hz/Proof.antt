@@ -1,10 +1,10 @@
 use mathlib.Core.Path.{refl, ap, _∙_}
 use Rattle.tables.specs.Bands.{bands, bounded, bandFor}
 use Rattle.tables.specs.Place.{bandPlace}
 use Rattle.tables.specs.declared.Found.{Found}
 use borrow.Author.Needs.{needs}
-use Rattle.tables.proofs.bands.band_for_freq_hz.Statement.{statement}
-use Rattle.tables.proofs.bands.band_for_freq_hz.Tie as tie
+use Rattle.bands.proofs.band_for_freq_hz.Statement.{statement}
+use Rattle.bands.proofs.band_for_freq_hz.Tie as tie
 
 slice-aggregate-band-in : tie.Need-slice-aggregate-band-in
 slice-aggregate-band-in c = search needs

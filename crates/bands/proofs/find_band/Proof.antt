@@ -2,12 +2,12 @@ use mathlib.Core.Path.{refl, ap, _∙_}
 use mathlib.Core.List.{List}
 use Prim.Native.Nat.{ℕ}
 use Rattle.letters.specs.Capitals.{raised}
 use Rattle.tables.specs.Table.{named, keyOf}
 use Rattle.tables.specs.Bands.{bands, bandNames, bandNamed}
 use Rattle.tables.proofs.KeyLaws.{keys-named}
 use borrow.Author.Needs.{needs}
-use Rattle.tables.proofs.bands.find_band.Statement.{statement}
-use Rattle.tables.proofs.bands.find_band.Tie as tie
+use Rattle.bands.proofs.find_band.Statement.{statement}
+use Rattle.bands.proofs.find_band.Tie as tie
 
 slice-aggregate-first-key : tie.Need-slice-aggregate-first-key
 slice-aggregate-first-key c = search needs

@@ -2,11 +2,11 @@ use mathlib.Core.Path.{refl}
 use Prim.Native.Nat.{_≤_, _-_}
 use lib.ListN.{length}
 use borrow.Author.Needs.{needs}
 use Rattle.tables.specs.Table.{firstFrom}
 use Rattle.tables.specs.Bands.{holds, bounded}
 use Rattle.tables.proofs.TableLaws.{Held-from, held-here, held-on, held-between, held-none}
-use Rattle.tables.proofs.bands.band_in.Statement.{statement}
-use Rattle.tables.proofs.bands.band_in.Tie as tie
+use Rattle.bands.proofs.band_in.Statement.{statement}
+use Rattle.bands.proofs.band_in.Tie as tie
 
 abbrev Inv-loop : tie.InvT-loop
 Inv-loop low high hz i₀ i = (i ≤ length low) × Held-from hz low high i (firstFrom (holds hz) 0 (bounded low high))

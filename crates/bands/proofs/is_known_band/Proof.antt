@@ -1,7 +1,7 @@
 use Rattle.tables.proofs.EntryLaws.{found-at, found-none}
 use borrow.Author.Needs.{needs}
-use Rattle.tables.proofs.bands.is_known_band.Statement.{statement}
-use Rattle.tables.proofs.bands.is_known_band.Tie as tie
+use Rattle.bands.proofs.is_known_band.Statement.{statement}
+use Rattle.bands.proofs.is_known_band.Tie as tie
 
 find-band-requires : tie.Need-find-band-requires
 find-band-requires c κs = search needs

@@ -1,6 +1,6 @@
 use borrow.Author.Needs.{needs}
-use Rattle.tables.proofs.bands.canonical_band.Statement.{statement}
-use Rattle.tables.proofs.bands.canonical_band.Tie as tie
+use Rattle.bands.proofs.canonical_band.Statement.{statement}
+use Rattle.bands.proofs.canonical_band.Tie as tie
 
 find-band-requires : tie.Need-find-band-requires
 find-band-requires c κs = search needs

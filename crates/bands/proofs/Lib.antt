@@ -1,0 +1,2 @@
+pub mod BandTheorems
+pub mod Determined
