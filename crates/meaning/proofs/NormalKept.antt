@@ -229,7 +229,7 @@ module _ (text : List ℕ) where
       pick-fit (isAbsent x) p x e (pick-fit (isAbsent p) (bandAt f) (knownBand text p) (at-fit f) (named-fit p))
 
   -- ---- the columns
-  fit-at : (ps : List Place) → areFit text ps ≡ true → (k : ℕ) → isFit text (getD ps k absent) ≡ true
+  pub fit-at : (ps : List Place) → areFit text ps ≡ true → (k : ℕ) → isFit text (getD ps k absent) ≡ true
   fit-at [] e k = no-place-fit
   fit-at (p ∷ ps) e zero = both-left (isFit text p) (areFit text ps) e
   fit-at (p ∷ ps) e (suc k) = fit-at ps (both-right (isFit text p) (areFit text ps) e) k
