@@ -2,8 +2,8 @@
 use mathlib.Core.Path.{_≡_, refl, sym, ap, _∙_}
 use mathlib.Core.Bool.{Bool, true, false}
 use mathlib.Core.List.{List, [], _∷_, map}
-use mathlib.Core.Option.{none, some}
-use Prim.Native.Nat.{ℕ, suc, _+_, _/_, _^_, _≤_, _<_}
+use mathlib.Core.Option.{some}
+use Prim.Native.Nat.{ℕ, suc, _+_, _/_, _≤_, _<_}
 use native.Mathlib.Omega.{arith}
 use lib.Dec.{leb}
 use lib.ListN.{length, getD, drop, length-map, length-take, length-drop}
@@ -14,8 +14,7 @@ use Rattle.text.specs.Utf8.{utf8}
 use Rattle.letters.specs.Capitals.{raised, capitals}
 use Rattle.letters.specs.Same.{same}
 use Rattle.letters.specs.Order.{order, orderRaised}
-use Rattle.letters.specs.declared.Order.{Order}
-use Rattle.letters.specs.declared.Order.the-variants.{Less, Equal, Greater}
+use Rattle.letters.specs.declared.Order.the-variants.{Less}
 use Rattle.letters.proofs.CapitalLaws.{capitals-twice}
 use Rattle.refusals.specs.declared.Refusal.{Refusal}
 use Rattle.refusals.specs.declared.Refusal.the-variants.{TooLong, ManyNames, BadRow, BadName, FrequencyTooHigh}
@@ -24,7 +23,7 @@ use Rattle.refusals.specs.declared.Verdict.the-variants.{Accepted, Refused}
 use Rattle.tags.specs.Tags.{colon, gt}
 use Rattle.adif.specs.Grammar.{Field}
 use Rattle.adif.specs.Limits.{Ascending}
-use Rattle.rowcheck.specs.Check.{Row, nameIn, valueIn, placed, sound, isLess, writable}
+use Rattle.rowcheck.specs.Check.{Row, nameIn, valueIn, placed, sound, writable}
 use Rattle.tables.proofs.Tested.{both-left, both-right}
 use Rattle.writer.specs.Rows.{rowsOf, rowField}
 use Rattle.trip.specs.File.{Good, AllGood, Writable}
@@ -37,7 +36,7 @@ use Rattle.model.specs.declared.Qso.{Qso}
 use Rattle.mapping.specs.Contact.{valueNamed}
 use Rattle.qsowriter.specs.Record.{columnFields, merged, recordOf}
 use Rattle.qsowriter.specs.Writing.{contactWith, isTooHigh, isTaken, countWith, rowVerdict, isAbove, rowsAfter, extraVerdict, qsoVerdict}
-use Rattle.qsotrip.proofs.Merged.{above-rising, merged-rises, merged-value, orValue}
+use Rattle.qsotrip.proofs.Merged.{less, merged-rises, merged-value}
 use Rattle.qsotrip.proofs.Counted.{takes, news, merged-few, merged-good}
 use Rattle.qsotrip.proofs.Slots.{slots, columns-laid, laid-value, columns-rise, columns-few, columns-good}
 use Rattle.qsotrip.proofs.Held.{qso-held}
@@ -57,11 +56,6 @@ onward why false v e = absurd (refused-not why e)
 onward-not : (why : Refusal) (t : Bool) (v : Verdict) → pick t (Refused why) v ≡ Accepted → (t ≡ false) × (v ≡ Accepted)
 onward-not why true v e = absurd (refused-not why e)
 onward-not why false v e = (refl, e)
-
-less : (o : Order) → isLess o ≡ true → o ≡ Less
-less Less e = refl
-less Equal e = absurd (let z : _≡_ {A = ℕ} 0 1 = cc in omega arith)
-less Greater e = absurd (let z : _≡_ {A = ℕ} 0 1 = cc in omega arith)
 
 taken-is : (fs : List Field) (x : List ℕ) → isTaken fs x ≡ takes fs (capitals x)
 taken-is [] x = refl

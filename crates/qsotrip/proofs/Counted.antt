@@ -12,7 +12,7 @@ use Rattle.letters.specs.Order.{order}
 use Rattle.letters.specs.declared.Order.{Order}
 use Rattle.letters.specs.declared.Order.the-variants.{Less, Equal, Greater}
 use Rattle.letters.proofs.SameLaws.{same-refl}
-use Rattle.letters.proofs.OrderLaws.{order-equal, order-turn, order-flip, order-trans}
+use Rattle.letters.proofs.OrderLaws.{order-equal, order-turn, order-flip}
 use Rattle.adif.specs.Grammar.{Field}
 use Rattle.adif.specs.Limits.{Ascending}
 use Rattle.trip.specs.File.{Good, AllGood}
@@ -20,37 +20,34 @@ use Rattle.trip.proofs.Means.{named}
 use Rattle.columns.specs.Columns.{isColumn}
 use Rattle.mapping.specs.Contact.{extraFields}
 use Rattle.qsowriter.specs.Record.{below, above, merged}
+use Rattle.qsotrip.specs.Rewritten.{Each, NoColumn}
 use Rattle.qsotrip.proofs.Merged.{differ, differ-greater, Above, above-trans, rising-above, below-less, below-equal, below-greater, above-less, above-equal, above-greater, rest-rises}
 
 -- ---- a law of each field
 module _ (P : Field → Type 0) where
-  abbrev pub Each : List Field → Type 0
-  Each [] = Unit {0}
-  Each (f ∷ fs) = P f × Each fs
-
-  each-below : (m : List ℕ) (es : List Field) → Each es → Each (below m es)
+  each-below : (m : List ℕ) (es : List Field) → Each P es → Each P (below m es)
   each-below m [] a = tt
   each-below m (e ∷ es) a = by (order (e .name) m) refl (each-below m es (a .1))
     where
-      by : (o : Order) → order (e .name) m ≡ o → Each (below m es) → Each (below m (e ∷ es))
+      by : (o : Order) → order (e .name) m ≡ o → Each P (below m es) → Each P (below m (e ∷ es))
       by Less h i = rw (below-less m e es h) (a .0, i)
       by Equal h i = rw (below-equal m e es h) tt
       by Greater h i = rw (below-greater m e es h) tt
 
-  each-above : (m : List ℕ) (es : List Field) → Each es → Each (above m es)
+  each-above : (m : List ℕ) (es : List Field) → Each P es → Each P (above m es)
   each-above m [] a = tt
   each-above m (e ∷ es) a = by (order (e .name) m) refl (each-above m es (a .1))
     where
-      by : (o : Order) → order (e .name) m ≡ o → Each (above m es) → Each (above m (e ∷ es))
+      by : (o : Order) → order (e .name) m ≡ o → Each P (above m es) → Each P (above m (e ∷ es))
       by Less h i = rw (above-less m e es h) i
       by Equal h i = rw (above-equal m e es h) (a .1)
       by Greater h i = rw (above-greater m e es h) a
 
-  each-join : (xs ys : List Field) → Each xs → Each ys → Each (xs ++ ys)
+  each-join : (xs ys : List Field) → Each P xs → Each P ys → Each P (xs ++ ys)
   each-join [] ys a b = b
   each-join (x ∷ xs) ys a b = (a .0, each-join xs ys (a .1) b)
 
-  pub each-merged : (fs es : List Field) → Each fs → Each es → Each (merged fs es)
+  pub each-merged : (fs es : List Field) → Each P fs → Each P es → Each P (merged fs es)
   each-merged [] es a b = b
   each-merged (f ∷ fs) es a b =
       each-join (below (f .name) es) (f ∷ merged fs (above (f .name) es)) (each-below (f .name) es b)
@@ -111,9 +108,6 @@ merged-few (f ∷ fs) es r s =
 -- ---- what is left beside the columns
 abbrev pub IsColumn : Field → Type 0
 IsColumn f = isColumn (f .name) ≡ true
-
-abbrev pub NoColumn : Field → Type 0
-NoColumn f = isColumn (f .name) ≡ false
 
 extra-join : (xs ys : List Field) → extraFields (xs ++ ys) ≡ extraFields xs ++ extraFields ys
 extra-join [] ys = refl

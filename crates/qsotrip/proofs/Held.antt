@@ -1,37 +1,37 @@
 -- The values of a QSO's columns are UTF-8 and short: parts of its text, entries of the tables, frequencies and numbers in decimal.
 -- Assumes nothing.
-use mathlib.Core.Path.{_≡_, refl, sym, ap, _∙_}
+use mathlib.Core.Path.{_≡_, refl, sym, _∙_}
 use mathlib.Core.Bool.{Bool, true, false}
 use mathlib.Core.List.{List, [], _∷_, _++_}
 use mathlib.Core.Option.{Option, none, some}
-use Prim.Native.Nat.{ℕ, zero, suc, _+_, _/_, _%_, _^_, _≤_, _<_}
+use Prim.Native.Nat.{ℕ, zero, suc, _+_, _/_, _%_, _≤_, _<_}
 use native.Mathlib.Omega.{arith}
 use lib.IntN.{ℤ, pos, negsuc}
 use lib.Dec.{eqb, leb, ltb}
-use lib.ListN.{length, getD, take, drop, length-map, length-append, length-take, length-drop}
-use borrow.Author.Tests.{leb-true, ltb-true}
+use lib.ListN.{length, take, drop, length-map, length-append, length-take, length-drop}
+use borrow.Author.Tests.{ltb-true}
 use Rattle.text.specs.Pick.{pick, both, either}
 use Rattle.text.specs.Utf8.{charLen, longChar, second3, second4, validUpTo, utf8, Utf8}
 use Rattle.text.specs.Walk.{lead}
 use Rattle.text.proofs.AppendLaws.{Ascii, utf8-append, utf8-ascii}
 use Rattle.letters.specs.Capitals.{raised, capitals}
 use Rattle.decimal.specs.Digits.{digits, decimal}
-use Rattle.decimal.proofs.ReadBack.{Digits, digits-append, are-digits}
+use Rattle.decimal.proofs.ReadBack.{Digits, digits-append}
 use Rattle.mhz.specs.Digits.{lastDigits}
 use Rattle.mhz.specs.Writing.{sixDecimals, mhzText}
 use Rattle.mhz.proofs.WriteLaws.{length-last}
 use Rattle.tables.specs.Table.{entry}
 use Rattle.tables.specs.Bands.{bands, bandNames}
 use Rattle.tables.specs.Modes.{modes, modeNames}
-use Rattle.tables.specs.Place.{absent, inText, part, value, orEmpty}
+use Rattle.tables.specs.Place.{inText, part, value, orEmpty}
 use Rattle.tables.specs.declared.Place.{Place}
 use Rattle.tables.proofs.Tested.{both-left, both-right, all}
 use Rattle.normalize.specs.Normal.{unlessEmpty}
 use Rattle.trip.proofs.Raised.{good-raised}
 use Rattle.trip.proofs.Lengths.{decimal-ascii}
 use Rattle.trip.proofs.Accepted.{utf8-is}
-use Rattle.model.specs.Contact.{Contact, contact, placeOf, hertz, entity}
-use Rattle.model.specs.Answer.{isPart, isEntry, isFit, areFit, isQso}
+use Rattle.model.specs.Contact.{contact, placeOf, hertz, entity}
+use Rattle.model.specs.Answer.{isPart, isFit, areFit, isQso}
 use Rattle.model.specs.declared.Qso.{Qso}
 use Rattle.adif.specs.Grammar.{Field}
 use Rattle.columns.specs.Columns
@@ -135,10 +135,9 @@ last-digits (suc k) n = digits-append (lastDigits k (n / 10)) ((0x30 + n % 10) �
 mhz-held : (hz : ℕ) → Held (some (mhzText hz))
 unfolding sixDecimals
 mhz-held hz =
-    let six : List ℕ = lastDigits 6 (hz % 1000000) in
-    (
+    let six : List ℕ = lastDigits 6 (hz % 1000000) in (
       utf8-append (decimal (hz / 1000000)) (0x2E ∷ six) (utf8-ascii (decimal (hz / 1000000)) (decimal-ascii (hz / 1000000)))
-      (utf8-ascii (0x2E ∷ six) (omega arith, digits-ascii six (last-digits 6 (hz % 1000000)))),
+          (utf8-ascii (0x2E ∷ six) (omega arith, digits-ascii six (last-digits 6 (hz % 1000000)))),
       omega (arith, length-append (decimal (hz / 1000000)) (0x2E ∷ six), decimal-short (hz / 1000000), length-last 6 (hz % 1000000)),
     )
 

@@ -4,10 +4,9 @@ use mathlib.Core.Path.{_≡_, refl, sym, ap, _∙_}
 use mathlib.Core.Bool.{Bool, true, false}
 use mathlib.Core.List.{List, [], _∷_, _++_}
 use mathlib.Core.Option.{Option, none, some}
-use Prim.Native.Nat.{ℕ, suc, _+_, _≤_}
+use Prim.Native.Nat.{ℕ, _+_}
 use native.Mathlib.Omega.{arith}
-use lib.ListN.{length}
-use Rattle.text.specs.Pick.{pick, either}
+use Rattle.text.specs.Pick.{pick}
 use Rattle.letters.specs.Same.{same}
 use Rattle.letters.specs.Order.{order}
 use Rattle.letters.specs.declared.Order.{Order}
@@ -17,13 +16,16 @@ use Rattle.letters.proofs.OrderLaws.{order-refl, order-equal, order-turn, order
 use Rattle.adif.specs.Grammar.{Field}
 use Rattle.adif.specs.Limits.{Ascending}
 use Rattle.rowcheck.specs.Check.{isLess}
-use Rattle.trip.specs.File.{AllGood}
 use Rattle.trip.proofs.Means.{named}
-use Rattle.columns.specs.Columns.{isColumn}
-use Rattle.mapping.specs.Contact.{valueNamed, extraFields}
+use Rattle.mapping.specs.Contact.{valueNamed}
 use Rattle.qsowriter.specs.Record.{below, above, merged}
 
 -- ---- two names, by their order
+pub less : (o : Order) → isLess o ≡ true → o ≡ Less
+less Less e = refl
+less Equal e = absurd (let z : _≡_ {A = ℕ} 0 1 = cc in omega arith)
+less Greater e = absurd (let z : _≡_ {A = ℕ} 0 1 = cc in omega arith)
+
 pub differ : (x y : List ℕ) → order x y ≡ Less → same x y ≡ false
 differ x y h = by (same x y) refl
   where
@@ -108,15 +110,6 @@ module _ (m : List ℕ) where
       by Less h i = rw (above-less m e es h) i
       by Equal h i = rw (above-equal m e es h) (r .1)
       by Greater h i = rw (above-greater m e es h) r
-
-  rest-still : (k : List ℕ) (es : List Field) → Above k es → Above k (above m es)
-  rest-still k [] a = tt
-  rest-still k (e ∷ es) a = by (order (e .name) m) refl (rest-still k es (a .1))
-    where
-      by : (o : Order) → order (e .name) m ≡ o → Above k (above m es) → Above k (above m (e ∷ es))
-      by Less h i = rw (above-less m e es h) i
-      by Equal h i = rw (above-equal m e es h) (a .1)
-      by Greater h i = rw (above-greater m e es h) a
 
   module _ (f : Field) (ys : List Field) (is : f .name ≡ m) (high : Above m ys) where
     laid-above : (k : List ℕ) → order k m ≡ Less → (es : List Field) → Above k es → Above k (below m es ++ (f ∷ ys))

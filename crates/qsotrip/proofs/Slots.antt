@@ -1,5 +1,5 @@
 -- The fields of the columns, one by one: a name, and a value or none. Assumes nothing.
-use mathlib.Core.Path.{_≡_, refl, sym, ap, _∙_}
+use mathlib.Core.Path.{_≡_, refl}
 use mathlib.Core.Bool.{Bool, true, false}
 use mathlib.Core.List.{List, [], _∷_, _++_}
 use mathlib.Core.Option.{Option, none, some}
@@ -10,14 +10,12 @@ use lib.ListN.{length}
 use Rattle.text.specs.Ascii.{ascii}
 use Rattle.text.specs.Pick.{pick, both}
 use Rattle.text.specs.Find.{other}
-use Rattle.text.specs.Space.{space1, space2, space3, space80, spaceLen, spaceBack, width, trimStart, trimEnd, trimmed}
+use Rattle.text.specs.Space.{space1, space2, space3, space80, spaceLen, spaceBack, width, trimStart, trimEnd}
 use Rattle.text.specs.Utf8.{charLen, longChar, second3, second4, validUpTo, utf8, Utf8}
 use Rattle.text.specs.Walk.{ends, lead}
 use Rattle.letters.specs.Capitals.{raised, capitals}
 use Rattle.letters.specs.Same.{same, sameRaised}
 use Rattle.letters.specs.Order.{order}
-use Rattle.letters.specs.declared.Order.{Order}
-use Rattle.letters.specs.declared.Order.the-variants.{Less, Equal, Greater}
 use Rattle.letters.proofs.SameLaws.{same-true}
 use Rattle.tags.specs.Tags.{kindOf}
 use Rattle.adif.specs.Grammar.{Field}
@@ -33,8 +31,9 @@ use Rattle.columns.specs.Columns.{columnNames, columnNamed, isColumn}
 use Rattle.model.specs.Contact.{Contact}
 use Rattle.mapping.specs.Contact.{valueNamed}
 use Rattle.qsowriter.specs.Record.{given, megahertz, splitOnly, entityText, columnFields}
-use Rattle.qsotrip.proofs.Merged.{Above, above-rising, orValue}
-use Rattle.qsotrip.proofs.Counted.{Each, IsColumn}
+use Rattle.qsotrip.proofs.Merged.{less, Above, above-rising, orValue}
+use Rattle.qsotrip.specs.Rewritten.{Each}
+use Rattle.qsotrip.proofs.Counted.{IsColumn}
 
 pub record Slot : Type 0 where
   pub name : String
@@ -92,11 +91,6 @@ laid-value n (s ∷ ss) = by (s .value) (laid-value n ss)
     by (some v) i = here (same (ascii (s .name)) n) v i
 
 -- ---- names that rise
-less : (o : Order) → isLess o ≡ true → o ≡ Less
-less Less e = refl
-less Equal e = absurd (let z : _≡_ {A = ℕ} 0 1 = cc in omega arith)
-less Greater e = absurd (let z : _≡_ {A = ℕ} 0 1 = cc in omega arith)
-
 abbrev lower : List ℕ → Slot → Bool
 lower m s = isLess (order m (ascii (s .name)))
 
@@ -134,17 +128,7 @@ laid-few (s ∷ ss) = by (s .value) (laid-few ss)
 pub columns-few : (c : Contact) → length (columnFields c) ≤ 13
 columns-few c = rw (columns-laid c) (laid-few (slots c))
 
-laid-some : (ss : List Slot) (n v : List ℕ) → found n ss ≡ some v → 0 < length (laid ss)
-laid-some ss n v e = by (laid ss) (laid-value n ss ∙ e)
-  where
-    by : (fs : List Field) → valueNamed n fs ≡ some v → 0 < length fs
-    by [] h = absurd (let z : _≡_ {A = ℕ} 0 1 = cc in omega arith)
-    by (f ∷ fs) h = omega arith
-
 -- ---- columns
-named-column : Slot → Bool
-named-column s = isColumn (ascii (s .name))
-
 laid-columns : (ss : List Slot) → all (λ (s : Slot). isColumn (ascii (s .name))) ss ≡ true → Each IsColumn (laid ss)
 laid-columns [] e = tt
 laid-columns (s ∷ ss) e = by (s .value) (laid-columns ss (both-right (isColumn (ascii (s .name))) (all (λ (s : Slot). isColumn (ascii (s .name))) ss) e))
