@@ -6,12 +6,13 @@ use Prim.Native.Nat.{ℕ}
 use native.Mathlib.Omega.{arith}
 use lib.ListN.{length}
 use Rattle.text.specs.Ascii.{ascii}
-use Rattle.letters.specs.Same.{sameRaised}
-use Rattle.letters.proofs.SameLaws.{lengths-differ-raised}
+use Rattle.letters.specs.Capitals.{capitals}
+use Rattle.letters.specs.Same.{same, sameRaised}
+use Rattle.letters.proofs.SameLaws.{same-refl, same-true, lengths-differ-raised}
 use Rattle.tables.specs.Table.{named, isFound}
 use Rattle.tables.specs.declared.Found.{Found}
 use Rattle.tables.specs.declared.Found.the-variants.{At, Nothing}
-use Rattle.columns.specs.Columns.{columnNames, columnNamed}
+use Rattle.columns.specs.Columns.{columnNames, columnNamed, Told}
 use Rattle.columns.proofs.LaidLaws.{is-column}
 
 other-length : (x n : List ℕ) → (length x ≡ length n → ⊥) → sameRaised x n ≡ false
@@ -99,3 +100,62 @@ module _ (x : List ℕ) (f : Found) (e : f ≡ columnNamed x) where
 
   pub no-column : f ≡ Nothing → false ≡ isFound (columnNamed x)
   no-column h = rw (← e, h) refl
+
+-- ---- a name as it stands
+told-at : (x : List ℕ) (j : ℕ) → At j ≡ columnNamed x → Told (At j) x
+unfolding Told
+told-at x j e k h = sym e ∙ h
+
+exact : (x n : List ℕ) (t : Bool) → t ≡ same x n → t ≡ true → sameRaised x n ≡ true
+unfolding sameRaised
+exact x n t e h = rw (same-true x n (sym e ∙ h)) (same-refl (capitals n))
+
+pub none-told : (x : List ℕ) → Told Nothing x
+unfolding Told
+none-told x k h = absurd (let z : _≡_ {A = ℕ} 0 1 = cc in omega arith)
+
+module _ (x : List ℕ) (t : Bool) where
+  pub call-told : t ≡ same x (ascii "CALL") → t ≡ true → Told (At 0) x
+  call-told e h = told-at x 0 (call x true (sym (exact x (ascii "CALL") t e h)) refl)
+
+  pub qso-date-told : t ≡ same x (ascii "QSO_DATE") → t ≡ true → Told (At 1) x
+  qso-date-told e h = told-at x 1 (qso-date x true (sym (exact x (ascii "QSO_DATE") t e h)) refl)
+
+  pub time-on-told : t ≡ same x (ascii "TIME_ON") → t ≡ true → Told (At 2) x
+  time-on-told e h = told-at x 2 (time-on x true (sym (exact x (ascii "TIME_ON") t e h)) refl)
+
+  pub band-told : t ≡ same x (ascii "BAND") → t ≡ true → Told (At 3) x
+  band-told e h = told-at x 3 (band x true (sym (exact x (ascii "BAND") t e h)) refl)
+
+  pub mode-told : t ≡ same x (ascii "MODE") → t ≡ true → Told (At 4) x
+  mode-told e h = told-at x 4 (mode x true (sym (exact x (ascii "MODE") t e h)) refl)
+
+  pub submode-told : t ≡ same x (ascii "SUBMODE") → t ≡ true → Told (At 5) x
+  submode-told e h = told-at x 5 (submode x true (sym (exact x (ascii "SUBMODE") t e h)) refl)
+
+  pub freq-told : t ≡ same x (ascii "FREQ") → t ≡ true → Told (At 6) x
+  freq-told e h = told-at x 6 (freq x true (sym (exact x (ascii "FREQ") t e h)) refl)
+
+  pub freq-rx-told : t ≡ same x (ascii "FREQ_RX") → t ≡ true → Told (At 7) x
+  freq-rx-told e h = told-at x 7 (freq-rx x true (sym (exact x (ascii "FREQ_RX") t e h)) refl)
+
+  pub band-rx-told : t ≡ same x (ascii "BAND_RX") → t ≡ true → Told (At 8) x
+  band-rx-told e h = told-at x 8 (band-rx x true (sym (exact x (ascii "BAND_RX") t e h)) refl)
+
+  pub rst-sent-told : t ≡ same x (ascii "RST_SENT") → t ≡ true → Told (At 9) x
+  rst-sent-told e h = told-at x 9 (rst-sent x true (sym (exact x (ascii "RST_SENT") t e h)) refl)
+
+  pub rst-rcvd-told : t ≡ same x (ascii "RST_RCVD") → t ≡ true → Told (At 10) x
+  rst-rcvd-told e h = told-at x 10 (rst-rcvd x true (sym (exact x (ascii "RST_RCVD") t e h)) refl)
+
+  pub gridsquare-told : t ≡ same x (ascii "GRIDSQUARE") → t ≡ true → Told (At 11) x
+  gridsquare-told e h = told-at x 11 (gridsquare x true (sym (exact x (ascii "GRIDSQUARE") t e h)) refl)
+
+  pub dxcc-told : t ≡ same x (ascii "DXCC") → t ≡ true → Told (At 12) x
+  dxcc-told e h = told-at x 12 (dxcc x true (sym (exact x (ascii "DXCC") t e h)) refl)
+
+-- ---- told exactly, or looked for with the case of letters aside
+module _ (x : List ℕ) (f : Found) (g : Told f x) where
+  pub is-told : (k : ℕ) → f ≡ At k → At k ≡ columnNamed x
+  unfolding Told
+  is-told k e = sym (g k e)

@@ -1,10 +1,12 @@
 -- The thirteen columns of a contact: the fields that have a place of their own, by their numbers.
+use mathlib.Core.Path.{_≡_}
 use Prim.Native.Nat.{ℕ}
 use mathlib.Core.Bool.{Bool}
 use mathlib.Core.List.{List, [], _∷_}
 use Rattle.text.specs.Ascii.{ascii}
 use Rattle.tables.specs.Table.{named, isFound}
 use Rattle.tables.specs.declared.Found.{Found}
+use Rattle.tables.specs.declared.Found.the-variants.{At}
 
 abbrev pub call : ℕ
 call = 0
@@ -69,3 +71,7 @@ columnNamed name = named name columnNames
 -- all other fields are extra
 abbrev pub isColumn : List ℕ → Bool
 isColumn name = isFound (columnNamed name)
+
+-- a column that is told is the name's; none may be told, though there is one
+unfoldable pub Told : Found → List ℕ → Type 0
+Told f name = (k : ℕ) → f ≡ At k → columnNamed name ≡ At k

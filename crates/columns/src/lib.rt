@@ -2,7 +2,8 @@
 ghost use mathlib.Core.Path.{_≡_};
 ghost use lib.ListN.{length};
 ghost use Rattle.tables.specs.Table.{isFound};
-ghost use Rattle.columns.specs.Columns.{columnNamed};
+ghost use Rattle.columns.specs.Columns.{columnNamed, Told};
+use letters::same;
 use letters::same_raised;
 use tables::Found;
 
@@ -33,6 +34,93 @@ pub const GRIDSQUARE: usize = 11;
 
 pub const DXCC: usize = 12;
 
+// ---- a name as it stands, in capitals: names mostly are, and bytes that are the same need not be raised
+fn exactly_four(name: &[u8]) -> Found
+    requires { ⌜ length (now name) ≡ 4 ⌝ }
+    ensures { λ r. ⌜ Told r (now (name .entry)) ⌝ }
+{
+    if same(name, b"CALL") {
+        return Found::At(0);
+    }
+    if same(name, b"BAND") {
+        return Found::At(3);
+    }
+    if same(name, b"MODE") {
+        return Found::At(4);
+    }
+    if same(name, b"FREQ") {
+        return Found::At(6);
+    }
+    if same(name, b"DXCC") {
+        return Found::At(12);
+    }
+    Found::Nothing
+}
+
+fn exactly_seven(name: &[u8]) -> Found
+    requires { ⌜ length (now name) ≡ 7 ⌝ }
+    ensures { λ r. ⌜ Told r (now (name .entry)) ⌝ }
+{
+    if same(name, b"TIME_ON") {
+        return Found::At(2);
+    }
+    if same(name, b"SUBMODE") {
+        return Found::At(5);
+    }
+    if same(name, b"FREQ_RX") {
+        return Found::At(7);
+    }
+    if same(name, b"BAND_RX") {
+        return Found::At(8);
+    }
+    Found::Nothing
+}
+
+fn exactly_eight(name: &[u8]) -> Found
+    requires { ⌜ length (now name) ≡ 8 ⌝ }
+    ensures { λ r. ⌜ Told r (now (name .entry)) ⌝ }
+{
+    if same(name, b"QSO_DATE") {
+        return Found::At(1);
+    }
+    if same(name, b"RST_SENT") {
+        return Found::At(9);
+    }
+    if same(name, b"RST_RCVD") {
+        return Found::At(10);
+    }
+    Found::Nothing
+}
+
+fn exactly_ten(name: &[u8]) -> Found
+    requires { ⌜ length (now name) ≡ 10 ⌝ }
+    ensures { λ r. ⌜ Told r (now (name .entry)) ⌝ }
+{
+    if same(name, b"GRIDSQUARE") {
+        return Found::At(11);
+    }
+    Found::Nothing
+}
+
+fn exactly(name: &[u8]) -> Found
+    ensures { λ r. ⌜ Told r (now (name .entry)) ⌝ }
+{
+    if name.len() == 4 {
+        return exactly_four(name);
+    }
+    if name.len() == 7 {
+        return exactly_seven(name);
+    }
+    if name.len() == 8 {
+        return exactly_eight(name);
+    }
+    if name.len() == 10 {
+        return exactly_ten(name);
+    }
+    Found::Nothing
+}
+
+// ---- the case of letters aside
 // The columns whose names have four letters, seven, eight and ten: a name is compared with few others.
 fn of_four(name: &[u8]) -> Found
     requires { ⌜ length (now name) ≡ 4 ⌝ }
@@ -101,8 +189,7 @@ fn of_ten(name: &[u8]) -> Found
     Found::Nothing
 }
 
-// The column that a field's name names.
-pub fn column_of(name: &[u8]) -> Found
+fn case_aside(name: &[u8]) -> Found
     ensures { λ r. ⌜ r ≡ columnNamed (now (name .entry)) ⌝ }
 {
     if name.len() == 4 {
@@ -118,6 +205,16 @@ pub fn column_of(name: &[u8]) -> Found
         return of_ten(name);
     }
     Found::Nothing
+}
+
+// The column that a field's name names.
+pub fn column_of(name: &[u8]) -> Found
+    ensures { λ r. ⌜ r ≡ columnNamed (now (name .entry)) ⌝ }
+{
+    match exactly(name) {
+        Found::At(k) => Found::At(k),
+        Found::Nothing => case_aside(name),
+    }
 }
 
 // A field whose name is no column's is extra.

@@ -1,3 +1,4 @@
 pub mod BandLaws
 pub mod NormalMeaning
 pub mod MappingMeaning
+pub mod NormalKept

@@ -38,7 +38,7 @@ use Rattle.mapping.specs.Contact.{valueNamed, hertzRead, frequencyRead, entityR
 use Rattle.mapping.specs.Mapping.{valuePlace, placeNamed, columnsOf, extraRows, frequencyOf, dxccOf, dxccAt, qsoWith}
 use Rattle.meaning.proofs.NormalMeaning.{first-alike, raised-alike}
 
-no-hertz : readHertz [] ≡ Absent
+pub no-hertz : readHertz [] ≡ Absent
 unfolding readHertz numberIn unsignedNumber isInfinity isNan decimalOf wholePart fractionPart afterDecimal pointed unsigned negative allDigits numberOf sameRaised raised trimmed trimStart trimEnd lead spaceLen spaceBack width space1 space2 space3 space80
 no-hertz = refl
 

@@ -43,7 +43,7 @@ take-own zero ys = refl
 take-own (suc n) [] = refl
 take-own (suc n) (y ∷ ys) = ap (λ (r : List ℕ). y ∷ r) (take-own n ys)
 
-sub-part : (text : List ℕ) (s l a n : ℕ)
+pub sub-part : (text : List ℕ) (s l a n : ℕ)
     → take (length (take n (drop a (take l (drop s text))))) (drop (s + a) text) ≡ take n (drop a (take l (drop s text)))
 sub-part text s l a n =
     rw (drop-take a l (drop s text), drop-drop a s text)
@@ -232,11 +232,11 @@ aliases-capital : all (λ (r : Known). same (capitals (r .name)) (r .name)) alia
 unfolding aliases raised
 aliases-capital = refl
 
-no-submode : named [] (names submodes) ≡ Nothing
+pub no-submode : named [] (names submodes) ≡ Nothing
 unfolding named submodes sameRaised
 no-submode = refl
 
-no-alias : named [] (names aliases) ≡ Nothing
+pub no-alias : named [] (names aliases) ≡ Nothing
 unfolding named aliases sameRaised
 no-alias = refl
 

@@ -1,0 +1,11 @@
+pub mod Merged
+pub mod Counted
+pub mod Slots
+pub mod Held
+pub mod Accepted
+pub mod Mapped
+pub mod Lasting
+pub mod Written
+pub mod Rows
+pub mod Trip
+pub mod Determined

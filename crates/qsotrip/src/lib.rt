@@ -1,0 +1,1 @@
+// A contact mapped, written and read: theorems about those definitions, and nothing that runs.
