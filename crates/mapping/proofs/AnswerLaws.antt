@@ -4,21 +4,26 @@ use mathlib.Core.Bool.{Bool, true, false, not}
 use mathlib.Core.List.{List, []}
 use Prim.Native.Nat.{ℕ, _+_, _-_, _*_, _/_, _≤_, _<_}
 use native.Mathlib.Omega.{arith}
-use lib.Dec.{leb}
+use lib.Dec.{eqb, leb}
 use lib.ListN.{length, getD}
-use borrow.Author.Tests.{le-leb, lt-leb}
+use borrow.Author.Tests.{le-leb, lt-leb, eqb-true}
 use Rattle.text.specs.Pick.{pick, both, either}
-use Rattle.text.specs.Space.{trimmed}
-use Rattle.decimal.specs.Decimal.{signedOf}
+use Rattle.text.specs.Space.{space1, space2, space3, space80, spaceLen, spaceBack, width, trimStart, trimEnd, trimmed}
+use Rattle.text.specs.Walk.{lead}
+use Rattle.letters.specs.Capitals.{raised}
+use Rattle.letters.specs.Same.{sameRaised}
+use Rattle.decimal.specs.Decimal.{digitsAfter, digitsOf, leads, unsignedOf, aboveZero, belowZero, signedOf}
 use Rattle.decimal.specs.declared.Signed.{Signed}
 use Rattle.decimal.specs.declared.Signed.the-variants.{Of, Bad}
+use Rattle.mhz.specs.Digits.{numberOf}
+use Rattle.mhz.specs.Number.{negative, unsigned, pointed, wholePart, fractionPart, afterDecimal, allDigits, decimalOf, isInfinity, isNan, unsignedNumber, numberIn}
 use Rattle.mhz.specs.Reading.{readHertz}
 use Rattle.mhz.specs.declared.Hz.{Hz}
 use Rattle.mhz.specs.declared.Hz.the-variants.{Absent, Is, Outside}
 use Rattle.refusals.specs.declared.Refusal.the-variants.{TooLong, BadRow, InexactFrequency}
 use Rattle.rowcheck.specs.Check.{Row}
 use Rattle.writer.specs.Rows.{rowsFrom}
-use Rattle.tables.specs.Place.{absent, part}
+use Rattle.tables.specs.Place.{absent, part, isAbsent}
 use Rattle.tables.specs.declared.Place.{Place}
 use Rattle.columns.specs.Columns.{freq, freqRx, dxcc}
 use Rattle.model.specs.Normal.{normalQso}
@@ -35,10 +40,37 @@ number-is s n size e = rw e refl
 pub hertz-is : (h : Hz) (n : ℕ) → h ≡ Is n → _≡_ {A = Frequency} (record { given = true; hz = n }) (frequencyOf h)
 hertz-is h n e = rw e refl
 
-pub dxcc-is : (text x d : List ℕ) (cs : List Place) (s : Signed) (r : Dxcc) → x ≡ part text (getD cs dxcc absent) → d ≡ trimmed x → s ≡ signedOf d → r ≡ dxccOf s
-    → r ≡ dxccAt text cs
+-- ---- nothing is read of a column that is absent
+pub no-hertz : readHertz [] ≡ Absent
+unfolding readHertz numberIn unsignedNumber isInfinity isNan decimalOf wholePart fractionPart afterDecimal pointed unsigned negative allDigits numberOf sameRaised raised trimmed trimStart trimEnd lead spaceLen spaceBack width space1 space2 space3 space80
+no-hertz = refl
+
+pub no-number : signedOf (trimmed []) ≡ Bad
+unfolding signedOf leads unsignedOf digitsOf digitsAfter aboveZero belowZero trimmed trimStart trimEnd lead spaceLen spaceBack width space1 space2 space3 space80
+no-number = refl
+
+module _ (text : List ℕ) (p : Place) where
+  absent-part : isAbsent p ≡ true → part text p ≡ []
+  unfolding part
+  absent-part e = rw (eqb-true (p .kind) 0 e) refl
+
+  module _ (t : Bool) (et : t ≡ isAbsent p) (h : t ≡ true) where
+    pub hertz-absent : Absent ≡ readHertz (part text p)
+    hertz-absent = sym (ap readHertz (absent-part (sym et ∙ h)) ∙ no-hertz)
+
+    pub number-absent : (d : Dxcc) → d ≡ noDxcc → d ≡ dxccOf (signedOf (trimmed (part text p)))
+    number-absent d e = e ∙ sym (ap (λ (x : List ℕ). dxccOf (signedOf (trimmed x))) (absent-part (sym et ∙ h)) ∙ ap dxccOf no-number)
+
+  pub hertz-said : (x : List ℕ) (h : Hz) → x ≡ part text p → h ≡ readHertz x → h ≡ readHertz (part text p)
+  hertz-said x h ex eh = eh ∙ ap readHertz ex
+
+  pub number-said : (x d : List ℕ) (s : Signed) (r : Dxcc) → x ≡ part text p → d ≡ trimmed x → s ≡ signedOf d → r ≡ dxccOf s
+      → r ≡ dxccOf (signedOf (trimmed (part text p)))
+  number-said x d s r ex ed es er = rw (er, es, ed, ex) refl
+
+pub dxcc-is : (text : List ℕ) (cs : List Place) (r : Dxcc) → r ≡ dxccOf (signedOf (trimmed (part text (getD cs dxcc absent)))) → r ≡ dxccAt text cs
 unfolding dxccAt
-dxcc-is text x d cs s r ex ed es er = rw (er, es, ed, ex) refl
+dxcc-is text cs r e = e
 
 pub qso-is : (text : List ℕ) (cs : List Place) (f g : Frequency) (d : Dxcc) → d ≡ dxccAt text cs
     → _≡_ {A = Qso} (record { columns = cs; freq = f; «freq_rx» = g; dxcc = d }) (qsoWith text cs f g)
@@ -57,10 +89,10 @@ module _ (text : List ℕ) (cs : List Place) (f g : Hz) (a b t : Bool) (ea : a �
   unfolding answerWith
   exact x y h ex ey eq er = rw (← tested, h) (er ∙ rw (eq, ex, ey) refl)
 
-pub over-columns : (text u v : List ℕ) (cs : List Place) (f g : Hz) (r : Answer) → u ≡ part text (getD cs freq absent) → f ≡ readHertz u → v ≡ part text (getD cs freqRx absent)
-    → g ≡ readHertz v → r ≡ answerWith text cs f g → r ≡ answerOver text cs
+pub over-columns : (text : List ℕ) (cs : List Place) (f g : Hz) (r : Answer) → f ≡ readHertz (part text (getD cs freq absent)) → g ≡ readHertz (part text (getD cs freqRx absent))
+    → r ≡ answerWith text cs f g → r ≡ answerOver text cs
 unfolding answerOver
-over-columns text u v cs f g r eu ef ev eg er = rw (er, ef, eg, eu, ev) refl
+over-columns text cs f g r ef eg er = rw (er, ef, eg) refl
 
 pub maps : (text : List ℕ) (rows : List Row) (cs : List Place) (r : Answer) → cs ≡ columnsOf text rows → r ≡ answerOver text cs → r ≡ mapped text rows
 unfolding mapped

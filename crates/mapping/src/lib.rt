@@ -4,7 +4,11 @@ ghost use Prim.Native.Nat.{_+_, _*_, _≤_};
 ghost use lib.ListN.{length};
 ghost use lib.Dec.{ltb};
 ghost use Rattle.text.specs.Pick.{both};
+ghost use Rattle.text.specs.Space.{trimmed};
+ghost use Rattle.decimal.specs.Decimal.{signedOf};
+ghost use Rattle.mhz.specs.Reading.{readHertz};
 ghost use Rattle.rowcheck.specs.Check.{recordIn};
+ghost use Rattle.tables.specs.Place.{part};
 ghost use Rattle.writer.specs.Rows.{rowsFrom};
 ghost use Rattle.mapping.specs.Mapping.{valuePlace, columnsOf, isOutside, frequencyOf, dxccOf, dxccAt, qsoWith, answerWith, answerOver, mapped, isRow, rises, isRecord, mappedTo, withNormal, normalTo};
 use columns::DXCC;
@@ -79,11 +83,30 @@ fn dxcc_of(number: Signed) -> Dxcc
     }
 }
 
+// Where a column is absent nothing is read.
+fn number_at(text: &[u8], p: Place) -> Dxcc
+    ensures { λ r. ⌜ r ≡ dxccOf (signedOf (trimmed (part (now (text .entry)) p))) ⌝ }
+{
+    if places::is_absent(p) {
+        return model::no_dxcc();
+    }
+    let digits = text::space::trim(places::part(text, p));
+    dxcc_of(decimal::parse_signed(digits))
+}
+
+fn hertz_at(text: &[u8], p: Place) -> Hz
+    ensures { λ r. ⌜ r ≡ readHertz (part (now (text .entry)) p) ⌝ }
+{
+    if places::is_absent(p) {
+        return Hz::Absent;
+    }
+    mhz::mhz_string_to_hz(places::part(text, p))
+}
+
 fn dxcc_at(text: &[u8], columns: [Place; 13]) -> Dxcc
     ensures { λ r. ⌜ r ≡ dxccAt (now (text .entry)) columns ⌝ }
 {
-    let digits = text::space::trim(places::part(text, columns[DXCC]));
-    dxcc_of(decimal::parse_signed(digits))
+    number_at(text, columns[DXCC])
 }
 
 fn qso_with(text: &[u8], columns: [Place; 13], freq: Frequency, split: Frequency) -> Qso
@@ -111,8 +134,8 @@ fn answer_with(text: &[u8], columns: [Place; 13], freq: Hz, split: Hz) -> Answer
 fn answer_over(text: &[u8], columns: [Place; 13]) -> Answer
     ensures { λ r. ⌜ r ≡ answerOver (now (text .entry)) columns ⌝ }
 {
-    let freq = mhz::mhz_string_to_hz(places::part(text, columns[FREQ]));
-    let split = mhz::mhz_string_to_hz(places::part(text, columns[FREQ_RX]));
+    let freq = hertz_at(text, columns[FREQ]);
+    let split = hertz_at(text, columns[FREQ_RX]);
     answer_with(text, columns, freq, split)
 }
 

@@ -36,15 +36,8 @@ use Rattle.model.specs.declared.Dxcc.{Dxcc}
 use Rattle.model.specs.declared.Qso.{Qso}
 use Rattle.mapping.specs.Contact.{valueNamed, hertzRead, frequencyRead, entityRead, dxccRead, extraFields, contactOf}
 use Rattle.mapping.specs.Mapping.{valuePlace, placeNamed, columnsOf, extraRows, frequencyOf, dxccOf, dxccAt, qsoWith}
+use Rattle.mapping.proofs.AnswerLaws.{no-hertz, no-number}
 use Rattle.meaning.proofs.NormalMeaning.{first-alike, raised-alike}
-
-pub no-hertz : readHertz [] ≡ Absent
-unfolding readHertz numberIn unsignedNumber isInfinity isNan decimalOf wholePart fractionPart afterDecimal pointed unsigned negative allDigits numberOf sameRaised raised trimmed trimStart trimEnd lead spaceLen spaceBack width space1 space2 space3 space80
-no-hertz = refl
-
-no-number : signedOf (trimmed []) ≡ Bad
-unfolding signedOf leads unsignedOf digitsOf digitsAfter aboveZero belowZero trimmed trimStart trimEnd lead spaceLen spaceBack width space1 space2 space3 space80
-no-number = refl
 
 -- the names are in capitals
 in-capitals-0 : capitals (ascii "CALL") ≡ ascii "CALL"

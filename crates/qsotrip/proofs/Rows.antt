@@ -34,7 +34,8 @@ use Rattle.model.specs.declared.Answer.{Answer}
 use Rattle.model.specs.declared.Qso.{Qso}
 use Rattle.mapping.specs.Contact.{valueNamed, columnValue, contactOf}
 use Rattle.mapping.specs.Mapping.{valuePlace, placeNamed, columnsOf, extraRows, hertzAt, isOutside, frequencyOf, qsoWith, answerWith, answerOver, mapped, isRow, rises, goesOn, isRecord, mappedTo}
-use Rattle.meaning.proofs.MappingMeaning.{no-hertz, mapped-means}
+use Rattle.mapping.proofs.AnswerLaws.{no-hertz}
+use Rattle.meaning.proofs.MappingMeaning.{mapped-means}
 use Rattle.qsowriter.specs.Record.{megahertz}
 use Rattle.qsotrip.specs.Rewritten.{Each, InCapitals, Survives}
 use Rattle.qsotrip.proofs.Merged.{less}
