@@ -16,6 +16,8 @@ mod normalize;
 mod notation;
 #[cfg(original)]
 mod original;
+#[cfg(original)]
+mod qso;
 mod reading;
 mod rust;
 mod text;
@@ -54,6 +56,8 @@ fn compare(mut run: Run, folder: &Path) -> ExitCode {
     normalize::run(&mut run);
     #[cfg(original)]
     model::run(&mut run);
+    #[cfg(original)]
+    qso::run(&mut run);
     #[cfg(original)]
     dedupe::run(&mut run);
     #[cfg(original)]

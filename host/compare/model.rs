@@ -57,12 +57,12 @@ const ENTITIES: [&str; 14] = [
     "291", " 291 ", "+7", "-7", "-0", "0", "", " ", "9223372036854775807", "9223372036854775808",
     "-9223372036854775808", "-9223372036854775809", "7x", "١",
 ];
-const EXTRA: [&str; 12] = [
+pub const EXTRA: [&str; 12] = [
     "NAME", "COMMENT", "APP_X_Y", "A", "ZZZ", "BAND_R", "CALLSIGN", "MY_GRIDSQUARE", "QSO_DATE_OFF", "", "NOTES_INTL",
     "É",
 ];
 
-fn value(random: &mut Random, column: &str) -> String {
+pub fn value(random: &mut Random, column: &str) -> String {
     if random.below(12) == 0 {
         let length = random.place(9);
         return String::from_utf8(utf8(random, length)).unwrap();
@@ -157,7 +157,7 @@ fn mapped(record: &AdifRecord, refusal: u32) -> Qso {
 }
 
 /// Whether a frequency of the record is outside the exact window, by the library's own call, which has groups of its own.
-fn inexact(record: &AdifRecord) -> bool {
+pub fn inexact(record: &AdifRecord) -> bool {
     ["FREQ", "FREQ_RX"]
         .iter()
         .any(|name| record.get(*name).is_some_and(|text| sys::mhz_to_hz(text.as_bytes()).refusal == 15))

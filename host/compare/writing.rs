@@ -21,7 +21,7 @@ pub fn run(run: &mut Run) {
 
 // The rules once more, on Rust's str.
 
-const CONTROL: [&str; 3] = ["EOH", "EOR", "APP_LOTW_EOF"];
+pub const CONTROL: [&str; 3] = ["EOH", "EOR", "APP_LOTW_EOF"];
 
 /// The text that rows give, or the refusal.
 pub fn expected(text: &[u8], table: &[u32], count: usize, room: usize) -> Result<Vec<u8>, u32> {
@@ -83,7 +83,7 @@ pub fn fitting(out: String, room: usize) -> Result<Vec<u8>, u32> {
 
 /// An output of `room` bytes in the midst of others, none of which is to change but those that are written.
 pub struct Output {
-    bytes: Vec<u8>,
+    pub bytes: Vec<u8>,
     room: usize,
 }
 
@@ -100,7 +100,7 @@ impl Output {
     }
 
     /// What the call has to answer, and all bytes as it has to leave them.
-    fn after(&self, expected: &Result<Vec<u8>, u32>) -> (Written, Vec<u8>) {
+    pub fn after(&self, expected: &Result<Vec<u8>, u32>) -> (Written, Vec<u8>) {
         let mut bytes = self.bytes.clone();
         let answer = match expected {
             Ok(text) => {

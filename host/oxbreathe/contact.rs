@@ -1,4 +1,4 @@
-//! Records as contacts, as rigflow's `record_to_qso` and `Qso::normalize`. A contact copies nothing: its columns are places in the
+//! Records as contacts and back, as rigflow's `record_to_qso`, `Qso::normalize` and `qso_to_record`. A contact copies nothing: its columns are places in the
 //! text that was read, and its extra fields are the record's rows.
 
 use crate::normalize::{BANDS, MODES};
@@ -70,6 +70,29 @@ impl<'a> Contact<'a> {
     /// The contact with mode, submode, band and band_rx normalised, and nothing else changed.
     pub fn normalize(self) -> Contact<'a> {
         Contact { qso: sys::normalize_qso(self.text.as_bytes(), self.qso).qso, ..self }
+    }
+
+    /// Writes the contact as a record, as rigflow's `qso_to_record` and `write_record`: its columns and its extra fields, in byte
+    /// order of their names.
+    ///
+    /// ```
+    /// let text = b"<MODE:3>usb <AGE:1>7 <CALL:4>W1AW <EOR>";
+    /// let mut table = [0; 15];
+    /// let read = oxbreathe::reading::read(text, &mut table).unwrap();
+    /// let (contact, _) = read.contacts().next().unwrap();
+    /// let mut out = [0; 100];
+    /// let written = contact.normalize().write(&mut out).unwrap();
+    /// assert_eq!(written, b"<AGE:1>7 <CALL:4>W1AW <MODE:3>SSB <QSO_DATE:0> <TIME_ON:0> <EOR>\n");
+    /// ```
+    pub fn write<'b>(&self, out: &'b mut [u8]) -> Result<&'b [u8], Refusal> {
+        let text = self.text.as_bytes();
+        let is_extra = |row: &&[u32]| {
+            sys::column(&text[row[1] as usize..(row[1] + row[2]) as usize]) as usize == COLUMNS.len()
+        };
+        let extra = self.rows.chunks_exact(ROW).filter(is_extra).flatten().copied().collect::<Vec<u32>>();
+        let answer = sys::write_qso(text, self.qso, &extra, extra.len() / ROW, out);
+        Refusal::told(answer.refusal, 0)?;
+        Ok(&out[..answer.length])
     }
 
     pub(crate) fn text(&self) -> &'a [u8] {

@@ -190,6 +190,15 @@ pub struct QsoAnswer {
     pub qso: Qso,
 }
 
+/// How many bytes a contact took, or why it was not written; and the contact, unchanged.
+#[repr(C)]
+#[derive(Clone, Copy, Debug, Default, PartialEq, Eq)]
+pub struct QsoWritten {
+    pub refusal: u32,
+    pub length: usize,
+    pub qso: Qso,
+}
+
 /// A contact list's mark, or why it is none.
 #[repr(C)]
 #[derive(Clone, Copy, Debug, Default, PartialEq, Eq)]
@@ -349,6 +358,16 @@ mod c {
             count: usize,
         ) -> QsoAnswer;
         pub fn ox_normalize_qso(text: *const u8, length: usize, qso: Qso) -> QsoAnswer;
+        pub fn ox_write_qso(
+            text: *const u8,
+            length: usize,
+            qso: Qso,
+            table: *const u32,
+            numbers: usize,
+            count: usize,
+            out: *mut u8,
+            room: usize,
+        ) -> QsoWritten;
         pub fn ox_contacts_check(list: *const u8, length: usize) -> MarkAnswer;
         pub fn ox_contacts_fresh(contacts: usize, largest: u64, list: *const u8, length: usize) -> FreshAnswer;
         pub fn ox_contacts_index(list: *const u8, length: usize, index: *mut Record, records: usize) -> MarkAnswer;
@@ -531,6 +550,11 @@ pub fn record_to_normal_qso(text: &[u8], table: &[u32], first: usize, count: usi
 }
 pub fn normalize_qso(text: &[u8], qso: Qso) -> QsoAnswer {
     unsafe { c::ox_normalize_qso(text.as_ptr(), text.len(), qso) }
+}
+/// The contact and, as its extra fields, the first `count` rows of the table.
+pub fn write_qso(text: &[u8], qso: Qso, table: &[u32], count: usize, out: &mut [u8]) -> QsoWritten {
+    let (numbers, room) = (table.len(), out.len());
+    unsafe { c::ox_write_qso(text.as_ptr(), text.len(), qso, table.as_ptr(), numbers, count, out.as_mut_ptr(), room) }
 }
 pub fn contacts_check(list: &[u8]) -> MarkAnswer {
     unsafe { c::ox_contacts_check(list.as_ptr(), list.len()) }

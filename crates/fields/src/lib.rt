@@ -7,7 +7,7 @@ ghost use Rattle.output.specs.Put.{Put, Room};
 ghost use Rattle.fields.specs.Written.{fieldText};
 ghost use Rattle.fields.specs.Parts.{fieldAs, openText, lengthText, valueText};
 
-fn put_raised(out: &mut [u8], at: usize, src: &[u8]) -> usize
+pub fn put_raised(out: &mut [u8], at: usize, src: &[u8]) -> usize
     requires { ⌜ Room (now out) at (capitals (now src)) ⌝ }
     ensures { λ r. ⌜ Put r (now (out .entry)) (now (out .exit)) at (capitals (now (src .entry))) ⌝ }
 {
@@ -19,7 +19,7 @@ fn put_raised(out: &mut [u8], at: usize, src: &[u8]) -> usize
     at + i
 }
 
-fn put_open(out: &mut [u8], at: usize, name: &[u8]) -> usize
+pub fn put_open(out: &mut [u8], at: usize, name: &[u8]) -> usize
     requires { ⌜ Room (now out) at (openText (now name)) ⌝ }
     ensures { λ r. ⌜ Put r (now (out .entry)) (now (out .exit)) at (openText (now (name .entry))) ⌝ }
 {
@@ -28,7 +28,7 @@ fn put_open(out: &mut [u8], at: usize, name: &[u8]) -> usize
     output::put_byte(out, b, b':')
 }
 
-fn put_length(out: &mut [u8], at: usize, n: u64) -> usize
+pub fn put_length(out: &mut [u8], at: usize, n: u64) -> usize
     requires { ⌜ Room (now out) at (lengthText n) ⌝ }
     ensures { λ r. ⌜ Put r (now (out .entry)) (now (out .exit)) at (lengthText n) ⌝ }
 {

@@ -1,3 +1,4 @@
 pub mod Record
 pub mod Writing
+pub mod Steps
 pub mod Examples

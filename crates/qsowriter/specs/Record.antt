@@ -6,15 +6,12 @@ use mathlib.Core.List.{List, [], _∷_, _++_}
 use mathlib.Core.Option.{Option, none, some}
 use lib.IntN.{ℤ, pos, negsuc}
 use Rattle.text.specs.Ascii.{ascii}
-use Rattle.text.specs.Pick.{pick}
-use Rattle.letters.specs.Same.{same}
-use Rattle.letters.specs.Order.{order}
 use Rattle.decimal.specs.Digits.{decimal}
 use Rattle.mhz.specs.Writing.{mhzText}
-use Rattle.rowcheck.specs.Check.{isLess}
 use Rattle.adif.specs.Grammar.{Field}
 use Rattle.normalize.specs.Normal.{unlessEmpty}
 use Rattle.model.specs.Contact.{Contact}
+pub use Rattle.merge.specs.Merge.{below, above, merged}
 
 -- the field of a column: always, or where there is a value
 abbrev pub field : String → List ℕ → Field
@@ -61,20 +58,6 @@ columnFields c =
     ++ (given "RST_SENT" (c .rstSent)
     ++ (given "SUBMODE" (c .submode)
     ++ always "TIME_ON" (c .timeOn))))))))))))
-
--- of fields whose names rise: those below a name, and those above it
-abbrev pub below : List ℕ → List Field → List Field
-below name [] = []
-below name (f ∷ fs) = pick (isLess (order (f .name) name)) (f ∷ below name fs) []
-
-abbrev pub above : List ℕ → List Field → List Field
-above name [] = []
-above name (f ∷ fs) = pick (isLess (order (f .name) name)) (above name fs) (pick (same (f .name) name) fs (f ∷ fs))
-
--- two lists of fields in one, in byte order of the names; of two fields of one name that of the first list stands
-abbrev pub merged : List Field → List Field → List Field
-merged [] es = es
-merged (f ∷ fs) es = below (f .name) es ++ (f ∷ merged fs (above (f .name) es))
 
 -- a column wins over an extra field of its name
 unfoldable pub recordOf : Contact → List Field

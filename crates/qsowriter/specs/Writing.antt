@@ -4,24 +4,26 @@ use mathlib.Core.Bool.{Bool, true, false}
 use mathlib.Core.List.{List, [], _∷_, map}
 use lib.Dec.{leb, ltb}
 use lib.ListN.{length}
-use lib.Seq.{sets}
 use Rattle.text.specs.Pick.{pick, both, either}
 use Rattle.letters.specs.Capitals.{capitals}
 use Rattle.letters.specs.Order.{orderRaised}
 use Rattle.letters.specs.Same.{same}
-use Rattle.refusals.specs.declared.Refusal.{Refusal}
-use Rattle.refusals.specs.declared.Refusal.the-variants.{TooLong, ManyNames, BadRow, BadName, ShortOutput, FrequencyTooHigh}
+use Rattle.refusals.specs.Written.{fitted, outputBy}
+use Rattle.refusals.specs.declared.Refusal.the-variants.{TooLong, ManyNames, BadRow, BadName, FrequencyTooHigh}
 use Rattle.refusals.specs.declared.Verdict.{Verdict}
 use Rattle.refusals.specs.declared.Verdict.the-variants.{Accepted, Refused}
+use Rattle.refusals.specs.declared.Written.{Written}
 use Rattle.adif.specs.Grammar.{Field}
 use Rattle.fields.specs.Written.{recordText}
-use Rattle.rowcheck.specs.Check.{Row, nameIn, placed, sound, isLess, writable}
+use Rattle.rowcheck.specs.Check.{Row, nameIn, placed, sound, isLess, writable, andThen}
 use Rattle.writer.specs.Rows.{rowsOf, rowField}
+use Rattle.writer.specs.Answer.{sizedBy}
 use Rattle.model.specs.Contact.{Contact, contact}
 use Rattle.model.specs.Answer.{isQso}
 use Rattle.model.specs.declared.Frequency.{Frequency}
 use Rattle.model.specs.declared.Qso.{Qso}
 use Rattle.qsowriter.specs.Record.{columnFields, recordOf}
+use Rattle.qsowriter.specs.declared.WrittenQso.{WrittenQso}
 
 -- the contact that a QSO and its extra rows say, and its text
 unfoldable pub contactWith : List ℕ → Qso → List Row → Contact
@@ -50,10 +52,6 @@ rowVerdict text fs n risen r =
     (pick (writable (nameIn text r)) (pick (leb (countWith text fs n r) 256) Accepted (Refused ManyNames)) (Refused BadName))
     (Refused BadRow)
 
-abbrev pub andThen : Verdict → Verdict → Verdict
-andThen Accepted w = w
-andThen (Refused why) w = Refused why
-
 abbrev pub isAbove : List ℕ → Row → Row → Bool
 isAbove text p r = isLess (orderRaised (nameIn text p) (nameIn text r))
 
@@ -77,17 +75,13 @@ qsoVerdict text q table count =
     (Refused TooLong)
 
 -- then 1 for the output, and 13
-abbrev pub fits : Verdict → ℕ → ℕ → Verdict
-fits (Refused why) n room = Refused why
-fits Accepted n room = pick (leb n 16777216) (pick (leb n room) Accepted (Refused ShortOutput)) (Refused TooLong)
+unfoldable pub writtenTo : List ℕ → Qso → List ℕ → ℕ → ℕ → Written
+writtenTo text q table count room = fitted (sizedBy (qsoVerdict text q table count) (length (qsoText text q (rowsOf table count)))) room
 
-unfoldable pub writtenTo : List ℕ → Qso → List ℕ → ℕ → ℕ → Verdict
-writtenTo text q table count room = fits (qsoVerdict text q table count) (length (qsoText text q (rowsOf table count))) room
+-- the QSO comes back as it was
+abbrev pub answerTo : List ℕ → Qso → List ℕ → ℕ → ℕ → WrittenQso
+answerTo text q table count room = record { written = writtenTo text q table count room; qso = q }
 
 -- the output: the text at its front, or as it was
-abbrev pub outputBy : Verdict → List ℕ → List ℕ → List ℕ
-outputBy Accepted was w = sets was 0 w
-outputBy (Refused why) was w = was
-
 unfoldable pub outputAfter : List ℕ → Qso → List ℕ → ℕ → List ℕ → List ℕ
 outputAfter text q table count was = outputBy (writtenTo text q table count (length was)) was (qsoText text q (rowsOf table count))
