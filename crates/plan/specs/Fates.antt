@@ -73,7 +73,7 @@ unfoldable pub count : ℕ → List ℕ → ℕ
 count f [] = 0
 count f (x ∷ xs) = pick (eqb x f) (suc (count f xs)) (count f xs)
 
--- ---- the fates as a lent table keeps them: sixteen numbers a record, the first of which is its fate; of the first k records
+-- ---- the fates as a lent table keeps them: a row a record, whose first number is its fate; of the first k records
 unfoldable pub fatesIn : List (List ℕ) → ℕ → List ℕ
 fatesIn rows zero = []
 fatesIn rows (suc k) = fatesIn rows k ++ (col rows k 0 ∷ [])

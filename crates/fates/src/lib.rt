@@ -1,0 +1,1 @@
+// The fate of each record of a plan.
