@@ -1,6 +1,7 @@
 -- What planning answers, and what it leaves in the lent tables. The refusals come in this order: the list's, 19 for the index, the
 -- reader's, 19 for the fates, 19 for the confirmations. After a refusal every table is zero throughout; else all past what is used.
 use Prim.Native.Nat.{ℕ, zero, suc, _-_, _/_}
+use mathlib.Core.Path.{_≡_}
 use mathlib.Core.Bool.{Bool}
 use mathlib.Core.List.{List, [], _∷_, _++_, map}
 use lib.IntN.{ℤ}
@@ -94,3 +95,11 @@ unfoldable pub cardsBy : Asked → Planned → List (List ℕ)
 cardsBy a (Made n used cards already unmatched contacts top) =
     padded (map cardRow (planFor a (readOf a) .confirmations)) noCard (a .confirmations)
 cardsBy a (Refused why) = replicate (a .confirmations) noCard
+
+-- ---- the five together
+pub record PlannedTo (a : Asked) (r : Planned) (table : List ℕ) (index fates cards : List (List ℕ)) : Type 0 where
+  pub answer : r ≡ plannedAs a
+  pub tabled : table ≡ tableBy a (plannedAs a)
+  pub indexed : index ≡ indexBy a (plannedAs a)
+  pub fated : fates ≡ fatesBy a (plannedAs a)
+  pub carded : cards ≡ cardsBy a (plannedAs a)
