@@ -1,0 +1,5 @@
+pub mod ReadFit
+pub mod WalkLaws
+pub mod JudgeLaws
+pub mod RowLaws
+pub mod FilledLaws
