@@ -3,3 +3,4 @@ pub mod WalkLaws
 pub mod JudgeLaws
 pub mod RowLaws
 pub mod FilledLaws
+pub mod Determined
