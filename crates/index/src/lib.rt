@@ -43,19 +43,19 @@ pub fn code_of(call: &[u8], mode: &[u8], band: &[u8]) -> u32
     stir_in_capitals(stir_in_capitals(stir_in_capitals(0, call), mode), band)
 }
 
-fn low_half(n: u64) -> u32
+pub fn low_half(n: u64) -> u32
     ensures { λ r. ⌜ r ≡ low n ⌝ }
 {
     (n % HALF) as u32
 }
 
-fn high_half(n: u64) -> u32
+pub fn high_half(n: u64) -> u32
     ensures { λ r. ⌜ r ≡ high n ⌝ }
 {
     (n / HALF) as u32
 }
 
-fn has_moment(m: Moment) -> u32
+pub fn has_moment(m: Moment) -> u32
     ensures { λ r. ⌜ r ≡ hasMoment m ⌝ }
 {
     match m {
@@ -64,7 +64,7 @@ fn has_moment(m: Moment) -> u32
     }
 }
 
-fn seconds_in(m: Moment) -> u64
+pub fn seconds_in(m: Moment) -> u64
     ensures { λ r. ⌜ r ≡ secondsIn m ⌝ }
 {
     match m {
