@@ -89,7 +89,7 @@ module _ (t r : Bool) where
       by true = refl
       by false = refl
 
-  view-at : (text : List ℕ) (k a n : ℕ) → viewed t r text (place k a n) (take (nameOf (place k a n) .len) (nameOf (place k a n) .bytes)) ≡ view t r (bytes text (place k a n))
+  pub view-at : (text : List ℕ) (k a n : ℕ) → viewed t r text (place k a n) (take (nameOf (place k a n) .len) (nameOf (place k a n) .bytes)) ≡ view t r (bytes text (place k a n))
   unfolding nameOf value part
   view-at text zero a n = rw either-false refl
   view-at text (suc zero) a n = rw either-false refl
