@@ -36,7 +36,7 @@ fn case_of(b: u8, raises: bool) -> u8
 }
 
 // Two texts, each as it stands or in capitals, are the same.
-fn same_cased(a: &[u8], a_raised: bool, b: &[u8], b_raised: bool) -> bool
+pub fn same_cased(a: &[u8], a_raised: bool, b: &[u8], b_raised: bool) -> bool
     ensures { λ r. ⌜ r ≡ same (cased «a_raised» (now (a .entry))) (cased «b_raised» (now (b .entry))) ⌝ }
 {
     if a.len() != b.len() {
@@ -53,7 +53,7 @@ fn same_cased(a: &[u8], a_raised: bool, b: &[u8], b_raised: bool) -> bool
 }
 
 // The part of the text at which a place is; the name where it is not in the text.
-fn shown<'a>(text: &'a [u8], name: &'a [u8], p: Place) -> &'a [u8]
+pub fn shown<'a>(text: &'a [u8], name: &'a [u8], p: Place) -> &'a [u8]
     ensures { λ r. ⌜ now r ≡ pick (inText p) (part (now (text .entry)) p) (now (name .entry)) ⌝ }
 {
     if places::in_text(p) {

@@ -19,10 +19,11 @@ use Rattle.decimal.specs.Decimal.{digitsAfter, digitsOf}
 use Rattle.dedupe.specs.Keys.{inLog, inFile}
 use Rattle.contacts.specs.Contacts.{Contact, contact, largest}
 use Rattle.chain.specs.Chain.{over}
+use Rattle.search.specs.Search.{firstFrom}
 use Rattle.confirmations.specs.Confirmations.{unanswered}
 use Rattle.confirmations.specs.declared.Answer.{Answer}
 use Rattle.plan.specs.Entry.{Entry}
-use Rattle.plan.specs.Fates.{matches, firstFrom, found, fateOf, repeats, fateAt, fatesTo, count}
+use Rattle.plan.specs.Fates.{matches, found, fateOf, repeats, fateAt, fatesTo, count}
 use Rattle.plan.specs.Confirmed.{hasBit, sameUnmatched, alike, counts, countedAt, newAt, oldAt, newTo, alreadyTo, unmatchedTo}
 use Rattle.plan.specs.Plan.{Plan, planFrom, planned, countsOf, fatesOf, totalOf}
 
