@@ -1,19 +1,24 @@
 -- What the three phases leave together, before all but fate and reason is wiped from the rows.
-use Prim.Native.Nat.{ℕ, _≤_, _<_}
+use Prim.Native.Nat.{ℕ, _/_, _≤_, _<_}
 use mathlib.Core.Path.{_≡_}
 use mathlib.Core.Bool.{Bool}
 use mathlib.Core.List.{List, [], map}
 use lib.IntN.{ℤ}
 use lib.Dec.{leb}
-use lib.ListN.{length, getD, take, drop}
+use lib.ListN.{length, getD, take, drop, replicate}
 use lib.Seq.{sets}
 use Rattle.text.specs.Pick.{pick}
 use Rattle.chain.specs.Chain.{col}
+use Rattle.adif.specs.Reading.{readText}
+use Rattle.reader.specs.Table.{answerOf, tableOf}
+use Rattle.reader.specs.declared.Reading.the-variants.{Read}
 use Rattle.contacts.specs.Lists.{contactsOf}
+use Rattle.contacts.specs.declared.Listed.the-variants.{Marked}
+use Rattle.index.specs.Index.{indexedAs, indexAfter}
 use Rattle.plan.specs.Plan.{Plan, planned}
-use Rattle.entries.specs.Row.{Row}
+use Rattle.entries.specs.Row.{Row, noRow}
 use Rattle.entries.specs.Filled.{entriesRead}
-use Rattle.cards.specs.Carded.{cardRow}
+use Rattle.cards.specs.Carded.{cardRow, noCard}
 use Rattle.cards.specs.declared.Carded.{Carded}
 use Rattle.cards.specs.declared.Carded.the-variants.{Counted, Full}
 use Rattle.planner.specs.Planning.{fateRow}
@@ -41,3 +46,15 @@ keptRow r = fateRow (getD r 0 0) (getD r 1 0)
 
 abbrev pub keptRows : List Row → ℕ → List Row
 keptRows rows n = map keptRow (take n rows)
+
+-- ---- before the phases: the index is built, fates and confirmations are zero; then the text is read
+pub record Begun (list : List ℕ) (contacts largest : ℕ) (index fates cards : List (List ℕ)) : Type 0 where
+  pub listed : indexedAs list (length index) ≡ Marked contacts largest
+  pub indexed : index ≡ indexAfter list (length index)
+  pub no-fates : fates ≡ replicate (length fates) noRow
+  pub no-cards : cards ≡ replicate (length cards) noCard
+
+pub record ReadAs (text table : List ℕ) (n used : ℕ) : Type 0 where
+  pub small : length text ≤ 16777216
+  pub answer : answerOf (readText text (length table / 5)) ≡ Read n used
+  pub shown : table ≡ tableOf (readText text (length table / 5)) (length table)

@@ -103,3 +103,16 @@ pub record PlannedTo (a : Asked) (r : Planned) (table : List ℕ) (index fates c
   pub indexed : index ≡ indexBy a (plannedAs a)
   pub fated : fates ≡ fatesBy a (plannedAs a)
   pub carded : cards ≡ cardsBy a (plannedAs a)
+
+-- what is asked where these tables are lent
+abbrev pub asked : List ℕ → List ℕ → ℤ → Bool → List ℕ → List (List ℕ) → List (List ℕ) → List (List ℕ) → Asked
+asked text list window download table index fates cards = record {
+  text = text;
+  list = list;
+  window = window;
+  download = download;
+  numbers = length table;
+  contacts = length index;
+  records = length fates;
+  confirmations = length cards;
+}

@@ -105,3 +105,42 @@ fn keep_fates(rows: &mut [[u32; 28]], n: usize)
         k += 1;
     }
 }
+
+// The three phases over the rows of n records that were read.
+fn plan_records(
+    text: &[u8],
+    list: &[u8],
+    window: i64,
+    download: bool,
+    table: &[u32],
+    index: &[[u32; 14]],
+    contacts: usize,
+    rows: &mut [[u32; 28]],
+    n: usize,
+    cards: &mut [[u32; 5]],
+) -> Carded
+    requires { ⌜ Indexed (now list) contacts (now index) × ReadInto (now text) (now table) n × (n ≤ length (now rows)) ⌝ }
+    ensures { λ r. ⌜ Recorded (planRead (now (text .entry)) (now (list .entry)) window download (now (table .entry))) n (now (rows .entry)) (now (cards .entry)) r (now (rows .exit)) (now (cards .exit)) ⌝ }
+{
+    entries::fill(text, table, n, rows);
+    fates::settle(text, list, index, contacts, window, download, rows, n);
+    cards::confirm(text, table, index, list, contacts, rows, n, cards)
+}
+
+// A plan that stops leaves nothing.
+fn clear_all(
+    table: &mut [u32],
+    index: &mut [[u32; 14]],
+    rows: &mut [[u32; 28]],
+    cards: &mut [[u32; 5]],
+)
+    ensures { λ _. ⌜ now (table .exit) ≡ replicate (length (now (table .entry))) 0 ⌝ }
+    ensures { λ _. ⌜ now (index .exit) ≡ replicate (length (now (index .entry))) Index.noRow ⌝ }
+    ensures { λ _. ⌜ now (rows .exit) ≡ replicate (length (now (rows .entry))) noRow ⌝ }
+    ensures { λ _. ⌜ now (cards .exit) ≡ replicate (length (now (cards .entry))) noCard ⌝ }
+{
+    reader::clear(table, 0);
+    index::clear(index);
+    clear_fates(rows);
+    clear_cards(cards);
+}
