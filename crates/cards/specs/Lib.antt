@@ -1,1 +1,2 @@
 pub mod Carded
+pub mod Steps

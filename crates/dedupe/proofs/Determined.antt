@@ -11,6 +11,8 @@ use Rattle.dedupe.proofs.in_file.Reads as in-file
 use Rattle.dedupe.proofs.in_file.Kinds as in-file-kinds
 use Rattle.dedupe.proofs.same_natural_key.Reads as same-natural-key
 use Rattle.dedupe.proofs.same_natural_key.Kinds as same-natural-key-kinds
+use Rattle.dedupe.proofs.same_unmatched.Reads as same-unmatched
+use Rattle.dedupe.proofs.same_unmatched.Kinds as same-unmatched-kinds
 use Rattle.dedupe.proofs.is_duplicate.Reads as is-duplicate
 use Rattle.dedupe.proofs.is_duplicate.Kinds as is-duplicate-kinds
 use Rattle.dedupe.proofs.same_cased.Reads as same-cased
@@ -39,6 +41,9 @@ in-file-once κs a x y d e p q = p ∙ sym q
 
 same-natural-key-once : Once 2 same-natural-key-kinds.ps same-natural-key-kinds.r same-natural-key.Post
 same-natural-key-once κs a x y d e p q = p ∙ sym q
+
+same-unmatched-once : Once 2 same-unmatched-kinds.ps same-unmatched-kinds.r same-unmatched.Post
+same-unmatched-once κs a x y d e p q = p ∙ sym q
 
 is-duplicate-once : Once 2 is-duplicate-kinds.ps is-duplicate-kinds.r is-duplicate.Post
 is-duplicate-once κs a x y d e p q = p ∙ sym q

@@ -9,7 +9,7 @@ ghost use Rattle.letters.specs.Capitals.{raised};
 ghost use Rattle.letters.specs.Same.{same};
 ghost use Rattle.tables.specs.Place.{inText, part, bytes};
 ghost use Rattle.times.specs.Moments.{momentOf};
-ghost use Rattle.dedupe.specs.Views.{cased, view, viewed, keysInLog, keysInFile, keysNatural, keysDuplicate};
+ghost use Rattle.dedupe.specs.Views.{cased, view, viewed, keysInLog, keysInFile, keysNatural, keysUnmatched, keysDuplicate};
 use tables::Place;
 use tables::places;
 use times::Moment;
@@ -147,6 +147,19 @@ pub fn same_natural_key(a: &[u8], k: Key, b: &[u8], o: Key) -> bool
     if alike(a, k.call, b, o.call, looked_at(false, true, true)) {
         if alike(a, k.mode, b, o.mode, looked_at(false, false, false)) {
             return alike(a, k.band, b, o.band, looked_at(false, false, false));
+        }
+        return false;
+    }
+    false
+}
+
+// What two confirmations that match no contact confirm is the same.
+pub fn same_unmatched(a: &[u8], k: Key, b: &[u8], o: Key) -> bool
+    ensures { λ r. ⌜ r ≡ keysUnmatched (now (a .entry)) k (now (b .entry)) o ⌝ }
+{
+    if alike(a, k.call, b, o.call, looked_at(true, true, true)) {
+        if alike(a, k.band, b, o.band, looked_at(false, false, false)) {
+            return alike(a, k.mode, b, o.mode, looked_at(false, false, false));
         }
         return false;
     }

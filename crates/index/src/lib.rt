@@ -157,7 +157,7 @@ fn no_row() -> [u32; 14]
     [0u32; 14]
 }
 
-fn clear(rows: &mut [[u32; 14]])
+pub fn clear(rows: &mut [[u32; 14]])
     ensures { λ _. ⌜ now (rows .exit) ≡ replicate (length (now (rows .entry))) noRow ⌝ }
 {
     let mut i = 0;
