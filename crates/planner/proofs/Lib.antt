@@ -1,2 +1,4 @@
 pub mod Clearing
 pub mod KeptLaws
+pub mod PhaseLaws
+pub mod ResultLaws

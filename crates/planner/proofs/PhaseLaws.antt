@@ -165,10 +165,20 @@ module _ (text list table : List ℕ) (window : ℤ) (download : Bool) (contacts
       unfolding planned planFrom
       fate-at k h = ap (λ (x : List ℕ). getD x 0 0) (L .kept k) ∙ F es S .fates k h
 
+      every-fate : length (plan .fates) ≡ n
+      unfolding planned planFrom
+      every-fate = fates-many window download es (hitsOf window (contactsOf list) es) (length es) ∙ sym (S .counted)
+
+      every-reason : length (plan .reasons) ≡ n
+      unfolding planned planFrom
+      every-reason = length-map es (λ e. e .reason) ∙ sym (S .counted)
+
       pub recorded-all : Recorded plan n rows cards r last cards′
       unfolding cardsAfter
       recorded-all = record {
         answer = answer-is;
+        every-fate = every-fate;
+        every-reason = every-reason;
         fates = fate-at;
         reasons = reason-at;
         behind = L .behind ∙ K .behind ∙ d;

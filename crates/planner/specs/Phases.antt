@@ -29,6 +29,8 @@ countedBy p m = pick (leb (length (p .confirmations)) m) (Counted (length (p .co
 -- n rows by a plan's fates and reasons, those behind as they were; and the confirmations, where there is room
 pub record Recorded (p : Plan) (n : ℕ) (rows cards : List (List ℕ)) (r : Carded) (rows′ cards′ : List (List ℕ)) : Type 0 where
   pub answer : r ≡ countedBy p (length cards)
+  pub every-fate : length (p .fates) ≡ n
+  pub every-reason : length (p .reasons) ≡ n
   pub fates : (k : ℕ) → k < n → col rows′ k 0 ≡ getD (p .fates) k 0
   pub reasons : (k : ℕ) → k < n → col rows′ k 1 ≡ getD (p .reasons) k 0
   pub behind : drop n rows′ ≡ drop n rows

@@ -6,7 +6,11 @@ ghost use lib.ListN.{length, getD, drop, replicate};
 ghost use lib.Seq.{sets};
 ghost use Rattle.entries.specs.Row.{noRow};
 ghost use Rattle.cards.specs.Carded.{noCard};
-ghost use Rattle.planner.specs.Phases.{keptRow, keptRows};
+ghost use Rattle.entries.specs.Filled.{ReadInto};
+ghost use Rattle.index.specs.Rows as Index;
+ghost use Rattle.search.specs.Search.{Indexed};
+ghost use Rattle.planner.specs.Planning.{asked, PlannedTo};
+ghost use Rattle.planner.specs.Phases.{keptRow, keptRows, planRead, Recorded, Begun, ReadAs};
 use cards::Carded;
 use contacts::Listed;
 use reader::Reading;
@@ -143,4 +147,108 @@ fn clear_all(
     index::clear(index);
     clear_fates(rows);
     clear_cards(cards);
+}
+
+// Of a text that was read into the table: so many records, in so many rows.
+fn plan_read(
+    text: &[u8],
+    list: &[u8],
+    window: i64,
+    download: bool,
+    contacts: usize,
+    largest: u64,
+    records: usize,
+    used: usize,
+    table: &mut [u32],
+    index: &mut [[u32; 14]],
+    fates: &mut [[u32; 28]],
+    cards: &mut [[u32; 5]],
+) -> Planned
+    requires { ⌜ Begun (now list) contacts largest (now index) (now fates) (now cards) × ReadAs (now text) (now table) records used ⌝ }
+    ensures { λ r. ⌜ PlannedTo (asked (now (text .entry)) (now (list .entry)) window download (now (table .entry)) (now (index .entry)) (now (fates .entry)) (now (cards .entry))) r (now (table .exit)) (now (index .exit)) (now (fates .exit)) (now (cards .exit)) ⌝ }
+{
+    if fates.len() < records {
+        clear_all(table, index, fates, cards);
+        return Planned::Refused(Refusal::ShortTable);
+    }
+    let carded = plan_records(
+        text, list, window, download, table, index, contacts, fates, records, cards,
+    );
+    match carded {
+        Carded::Counted {
+            confirmations,
+            already,
+            unmatched,
+        } => {
+            keep_fates(fates, records);
+            Planned::Made {
+                records,
+                rows: used,
+                confirmations,
+                already,
+                unmatched,
+                contacts,
+                largest,
+            }
+        }
+        Carded::Full => {
+            clear_all(table, index, fates, cards);
+            Planned::Refused(Refusal::ShortTable)
+        }
+    }
+}
+
+// Against a list whose index was built.
+fn plan_indexed(
+    text: &[u8],
+    list: &[u8],
+    window: i64,
+    download: bool,
+    contacts: usize,
+    largest: u64,
+    table: &mut [u32],
+    index: &mut [[u32; 14]],
+    fates: &mut [[u32; 28]],
+    cards: &mut [[u32; 5]],
+) -> Planned
+    requires { ⌜ Begun (now list) contacts largest (now index) (now fates) (now cards) ⌝ }
+    ensures { λ r. ⌜ PlannedTo (asked (now (text .entry)) (now (list .entry)) window download (now (table .entry)) (now (index .entry)) (now (fates .entry)) (now (cards .entry))) r (now (table .exit)) (now (index .exit)) (now (fates .exit)) (now (cards .exit)) ⌝ }
+{
+    let reading = reader::read(text, table);
+    match reading {
+        Reading::Read { records, rows } => plan_read(
+            text, list, window, download, contacts, largest, records, rows, table, index, fates, cards,
+        ),
+        Reading::Refused(why) => {
+            clear_all(table, index, fates, cards);
+            Planned::Refused(why)
+        }
+    }
+}
+
+// As `plan` and, for a download, `plan_download`. What the tables held before is of no account.
+pub fn plan(
+    text: &[u8],
+    list: &[u8],
+    window: i64,
+    download: bool,
+    table: &mut [u32],
+    index: &mut [[u32; 14]],
+    fates: &mut [[u32; 28]],
+    cards: &mut [[u32; 5]],
+) -> Planned
+    ensures { λ r. ⌜ PlannedTo (asked (now (text .entry)) (now (list .entry)) window download (now (table .entry)) (now (index .entry)) (now (fates .entry)) (now (cards .entry))) r (now (table .exit)) (now (index .exit)) (now (fates .exit)) (now (cards .exit)) ⌝ }
+{
+    clear_fates(fates);
+    clear_cards(cards);
+    let listed = index::build(list, index);
+    match listed {
+        Listed::Marked { contacts, largest } => plan_indexed(
+            text, list, window, download, contacts, largest, table, index, fates, cards,
+        ),
+        Listed::Refused(why) => {
+            clear_all(table, index, fates, cards);
+            Planned::Refused(why)
+        }
+    }
 }
