@@ -3,109 +3,77 @@ use borrow.Author.Needs.{needs}
 use Rattle.cards.proofs.confirm_at.Statement.{statement}
 use Rattle.cards.proofs.confirm_at.Tie as tie
 use Rattle.cards.proofs.confirm_at.Reads as reads
-use Rattle.cards.proofs.confirm_at.Lts as lts
-use Rattle.cards.proofs.answers_at.Reads as answers-at-reads
-use Rattle.cards.proofs.with_answers.Reads as with-answers-reads
-use Rattle.counted.proofs.mark.Reads as mark-reads
-use Rattle.counted.proofs.number_in.Reads as number-in-reads
-use Rattle.tallies.proofs.services_in.Reads as services-in-reads
-use Rattle.tallies.proofs.target_of.Reads as target-of-reads
-use Rattle.tallies.proofs.with_none.Reads as with-none-reads
 
--- src/lib.rt:116:28
 mul-number-in : tie.Need-mul-number-in
 mul-number-in c = search needs
 
--- src/lib.rt:116:28
 slice-copy-out-number-in : tie.Need-slice-copy-out-number-in
 slice-copy-out-number-in c = search needs
 
--- src/lib.rt:116:9
 number-in-requires : tie.Need-number-in-requires
 number-in-requires c κs = search needs
 
--- src/lib.rt:117:28
 mul-number-in-2 : tie.Need-mul-number-in-2
 mul-number-in-2 c = search needs
 
--- src/lib.rt:117:28
 slice-copy-out-number-in-2 : tie.Need-slice-copy-out-number-in-2
 slice-copy-out-number-in-2 c = search needs
 
--- src/lib.rt:117:9
 number-in-requires-2 : tie.Need-number-in-requires-2
 number-in-requires-2 c κs = search needs
 
--- src/lib.rt:114:9
 target-of-requires : tie.Need-target-of-requires
 target-of-requires c κs = search needs
 
--- src/lib.rt:119:43
 mul-answers-at : tie.Need-mul-answers-at
 mul-answers-at c = search needs
 
--- src/lib.rt:119:43
 slice-copy-out-answers-at : tie.Need-slice-copy-out-answers-at
 slice-copy-out-answers-at c = search needs
 
--- src/lib.rt:119:19
 answers-at-requires : tie.Need-answers-at-requires
 answers-at-requires c κs = search needs
 
--- src/lib.rt:126:9
 array-copy-out-with-answers : tie.Need-array-copy-out-with-answers
 array-copy-out-with-answers c = search needs
 
--- src/lib.rt:127:9
 array-copy-out-with-answers-2 : tie.Need-array-copy-out-with-answers-2
 array-copy-out-with-answers-2 c = search needs
 
--- src/lib.rt:128:9
 array-copy-out-with-answers-3 : tie.Need-array-copy-out-with-answers-3
 array-copy-out-with-answers-3 c = search needs
 
--- src/lib.rt:129:9
 array-copy-out-with-answers-4 : tie.Need-array-copy-out-with-answers-4
 array-copy-out-with-answers-4 c = search needs
 
--- src/lib.rt:131:9
 with-none-requires : tie.Need-with-none-requires
 with-none-requires c κs = search needs
 
--- src/lib.rt:120:9
 with-answers-requires : tie.Need-with-answers-requires
 with-answers-requires c κs =
     let P = c .before .before .before .before .before .before .before .before .before .before .before .before .before .before .before .before .pre in (P .marked, few-used _ _ _ _ _ _ _ _ P (c .«with-none» .ensures), few-already _ _ _ _ _ _ _ _ P (c .«with-none» .ensures), few-unmatched _ _ _ _ _ _ _ _ P (c .«with-none» .ensures))
 
--- src/lib.rt:133:9
 services-in-requires : tie.Need-services-in-requires
 services-in-requires c κs = search needs
 
--- src/lib.rt:135:9
 mark-requires : tie.Need-mark-requires
 mark-requires c κs = let P = c .before .before .before .before .before .before .before .before .before .before .before .before .before .before .before .before .before .before .before .before .before .pre in (P .marked .room, P .marked .inside, P .few)
 
--- src/lib.rt:98:1
 same-length : tie.Need-same-length
 same-length c = search needs
 
--- src/lib.rt:98:1
 same-length-2 : tie.Need-same-length-2
 same-length-2 c = search needs
 
--- src/lib.rt:98:1
 returns : tie.Need-returns
 returns c = (at-counted _ _ _ _ _ _ _ _ _ _ _ (c .before .before .before .before .before .before .before .before .before .before .before .before .before .before .before .before .before .before .before .«number-in» .ensures) (c .before .before .before .before .before .before .before .before .before .before .before .before .before .before .before .before .before .«number-in2» .ensures) (c .before .before .before .before .before .before .before .before .before .before .before .before .before .before .before .before .«target-of» .ensures) (c .before .before .before .before .before .before .before .before .before .before .before .before .before .before .«answers-at» .ensures) (c .before .before .before .before .before .before .before .«with-none» .ensures) _ (c .before .before .before .before .before .before .«with-answers» .ensures .0), (at-cards _ _ _ _ _ _ _ _ _ _ _ (c .before .before .before .before .before .before .before .before .before .before .before .before .before .before .before .before .before .before .before .«number-in» .ensures) (c .before .before .before .before .before .before .before .before .before .before .before .before .before .before .before .before .before .«number-in2» .ensures) (c .before .before .before .before .before .before .before .before .before .before .before .before .before .before .before .before .«target-of» .ensures) (c .before .before .before .before .before .before .before .before .before .before .before .before .before .before .«answers-at» .ensures) (c .before .before .before .before .before .before .before .«with-none» .ensures) _ _ (c .before .before .before .before .before .before .«with-answers» .ensures .1 .0), (at-marked _ _ _ _ _ (c .before .before .before .before .«services-in» .ensures) _ (c .before .before .before .if1 .taken) (c .before .mark .ensures), grown-from _ _ _ (c .before .before .before .before .before .before .before .«with-none» .ensures) (c .before .before .before .before .before .before .«with-answers» .ensures .1 .1))))
 
--- src/lib.rt:98:1
 same-length-3 : tie.Need-same-length-3
 same-length-3 c = search needs
 
--- src/lib.rt:98:1
 same-length-4 : tie.Need-same-length-4
 same-length-4 c = search needs
 
--- src/lib.rt:98:1
 returns-2 : tie.Need-returns-2
 returns-2 c = (at-counted _ _ _ _ _ _ _ _ _ _ _ (c .before .before .before .before .before .before .before .before .before .before .before .before .before .before .before .before .«number-in» .ensures) (c .before .before .before .before .before .before .before .before .before .before .before .before .before .before .«number-in2» .ensures) (c .before .before .before .before .before .before .before .before .before .before .before .before .before .«target-of» .ensures) (c .before .before .before .before .before .before .before .before .before .before .before .«answers-at» .ensures) (c .before .before .before .before .«with-none» .ensures) _ (c .before .before .before .«with-answers» .ensures .0), (at-cards _ _ _ _ _ _ _ _ _ _ _ (c .before .before .before .before .before .before .before .before .before .before .before .before .before .before .before .before .«number-in» .ensures) (c .before .before .before .before .before .before .before .before .before .before .before .before .before .before .«number-in2» .ensures) (c .before .before .before .before .before .before .before .before .before .before .before .before .before .«target-of» .ensures) (c .before .before .before .before .before .before .before .before .before .before .before .«answers-at» .ensures) (c .before .before .before .before .«with-none» .ensures) _ _ (c .before .before .before .«with-answers» .ensures .1 .0), (at-left _ _ _ _ _ (c .before .«services-in» .ensures) (c .if1 .left), grown-from _ _ _ (c .before .before .before .before .«with-none» .ensures) (c .before .before .before .«with-answers» .ensures .1 .1))))
 

@@ -3,30 +3,22 @@ use borrow.Author.Needs.{needs}
 use Rattle.cards.proofs.with_answers.Statement.{statement}
 use Rattle.cards.proofs.with_answers.Tie as tie
 use Rattle.cards.proofs.with_answers.Reads as reads
-use Rattle.cards.proofs.with_answers.Lts as lts
-use Rattle.cards.proofs.with_answer.Reads as with-answer-reads
 
--- src/lib.rt:91:9
 with-answer-requires : tie.Need-with-answer-requires
 with-answer-requires c κs = search needs
 
--- src/lib.rt:92:9
 with-answer-requires-2 : tie.Need-with-answer-requires-2
 with-answer-requires-2 c κs = search needs
 
--- src/lib.rt:93:9
 with-answer-requires-3 : tie.Need-with-answer-requires-3
 with-answer-requires-3 c κs = search needs
 
--- src/lib.rt:94:5
 with-answer-requires-4 : tie.Need-with-answer-requires-4
 with-answer-requires-4 c κs = search needs
 
--- src/lib.rt:73:1
 same-length : tie.Need-same-length
 same-length c = search needs
 
--- src/lib.rt:73:1
 returns : tie.Need-returns
 returns c = (four-counted _ _ _ _ _ _ _ _ _ _ (c .before .before .before .before .before .before .before .before .before .before .«with-answer» .ensures .0) (c .before .before .before .before .before .before .before .«with-answer2» .ensures .0) (c .before .before .before .before .«with-answer3» .ensures .0) _ (c .before .«with-answer4» .ensures .0), (four-cards _ _ _ _ _ _ _ _ _ _ (c .before .before .before .before .before .before .before .before .before .before .«with-answer» .ensures .0) (c .before .before .before .before .before .before .before .«with-answer2» .ensures .0) (c .before .before .before .before .«with-answer3» .ensures .0) _ _ _ _ _ (c .before .before .before .before .before .before .before .before .before .before .«with-answer» .ensures .1 .0) (c .before .before .before .before .before .before .before .«with-answer2» .ensures .1 .0) (c .before .before .before .before .«with-answer3» .ensures .1 .0) (c .before .«with-answer4» .ensures .1 .0), grown-four _ _ _ _ _ (c .before .before .before .before .before .before .before .before .before .before .«with-answer» .ensures .1 .1) (c .before .before .before .before .before .before .before .«with-answer2» .ensures .1 .1) (c .before .before .before .before .«with-answer3» .ensures .1 .1) (c .before .«with-answer4» .ensures .1 .1)))
 

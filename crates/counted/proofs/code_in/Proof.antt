@@ -2,7 +2,6 @@ use Rattle.counted.proofs.AlikeLaws.{code-contact, code-key}
 use borrow.Author.Needs.{needs}
 use Rattle.counted.proofs.code_in.Statement.{statement}
 use Rattle.counted.proofs.code_in.Tie as tie
-use Rattle.counted.proofs.code_in.Reads as reads
 
 number-in-requires : tie.Need-number-in-requires
 number-in-requires c κs = search needs

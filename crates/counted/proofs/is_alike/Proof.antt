@@ -2,7 +2,6 @@ use Rattle.counted.proofs.AlikeLaws.{other-fate, same-contact, same-key
 use borrow.Author.Needs.{needs}
 use Rattle.counted.proofs.is_alike.Statement.{statement}
 use Rattle.counted.proofs.is_alike.Tie as tie
-use Rattle.counted.proofs.is_alike.Reads as reads
 
 number-in-requires : tie.Need-number-in-requires
 number-in-requires c κs = search needs

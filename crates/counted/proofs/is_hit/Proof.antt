@@ -2,7 +2,6 @@ use Rattle.counted.proofs.AlikeLaws.{not-served, served}
 use borrow.Author.Needs.{needs}
 use Rattle.counted.proofs.is_hit.Statement.{statement}
 use Rattle.counted.proofs.is_hit.Tie as tie
-use Rattle.counted.proofs.is_hit.Reads as reads
 
 services-in-requires : tie.Need-services-in-requires
 services-in-requires c κs = search needs

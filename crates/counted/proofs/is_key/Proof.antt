@@ -2,7 +2,6 @@ use Rattle.counted.proofs.AlikeLaws.{key-other, key-same}
 use borrow.Author.Needs.{needs}
 use Rattle.counted.proofs.is_key.Statement.{statement}
 use Rattle.counted.proofs.is_key.Tie as tie
-use Rattle.counted.proofs.is_key.Reads as reads
 
 number-in-requires : tie.Need-number-in-requires
 number-in-requires c κs = search needs

@@ -2,7 +2,6 @@ use Rattle.counted.proofs.WalkLaws.{Walking, walk-start, walk-in, walk-
 use borrow.Author.Needs.{needs}
 use Rattle.counted.proofs.is_seen.Statement.{statement}
 use Rattle.counted.proofs.is_seen.Tie as tie
-use Rattle.counted.proofs.is_seen.Reads as reads
 
 abbrev Inv-loop : tie.InvT-loop
 Inv-loop text rows n k s b at₀ at = Walking text rows k s n at

@@ -2,7 +2,6 @@ use Rattle.counted.proofs.MarkLaws.{mark-is, bucket-in}
 use borrow.Author.Needs.{needs}
 use Rattle.counted.proofs.mark.Statement.{statement}
 use Rattle.counted.proofs.mark.Tie as tie
-use Rattle.counted.proofs.mark.Reads as reads
 
 mul-code-in : tie.Need-mul-code-in
 mul-code-in c = search needs

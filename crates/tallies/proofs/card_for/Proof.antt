@@ -2,10 +2,7 @@ use Rattle.tallies.proofs.TallyLaws.{card-is}
 use borrow.Author.Needs.{needs}
 use Rattle.tallies.proofs.card_for.Statement.{statement}
 use Rattle.tallies.proofs.card_for.Tie as tie
-use Rattle.tallies.proofs.card_for.Reads as reads
-use Rattle.tallies.proofs.card_for.Lts as lts
 
--- src/lib.rt:111:1
 returns : tie.Need-returns
 returns c = search (needs, card-is)
 

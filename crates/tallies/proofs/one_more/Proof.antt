@@ -2,18 +2,13 @@ use Rattle.tallies.proofs.TallyLaws.{counted-one, counted-none}
 use borrow.Author.Needs.{needs}
 use Rattle.tallies.proofs.one_more.Statement.{statement}
 use Rattle.tallies.proofs.one_more.Tie as tie
-use Rattle.tallies.proofs.one_more.Reads as reads
-use Rattle.tallies.proofs.one_more.Lts as lts
 
--- src/lib.rt:91:17
 add-result : tie.Need-add-result
 add-result c = search needs
 
--- src/lib.rt:86:1
 returns : tie.Need-returns
 returns c = (search (needs, counted-one), search needs)
 
--- src/lib.rt:86:1
 returns-2 : tie.Need-returns-2
 returns-2 c = (search (needs, counted-none), search needs)
 

@@ -3,30 +3,22 @@ use borrow.Author.Needs.{needs}
 use Rattle.tallies.proofs.put_card.Statement.{statement}
 use Rattle.tallies.proofs.put_card.Tie as tie
 use Rattle.tallies.proofs.put_card.Reads as reads
-use Rattle.tallies.proofs.put_card.Lts as lts
-use Rattle.tallies.proofs.card_for.Reads as card-for-reads
 
--- src/lib.rt:123:21
 card-for-requires : tie.Need-card-for-requires
 card-for-requires c κs = search needs
 
--- src/lib.rt:123:9
 mul-t8 : tie.Need-mul-t8
 mul-t8 c = search needs
 
--- src/lib.rt:123:9
 slice-set-from-cards : tie.Need-slice-set-from-cards
 slice-set-from-cards c = search needs
 
--- src/lib.rt:119:1
 same-length : tie.Need-same-length
 same-length c = search needs
 
--- src/lib.rt:119:1
 returns : tie.Need-returns
 returns c = search (needs, put-in)
 
--- src/lib.rt:119:1
 returns-2 : tie.Need-returns-2
 returns-2 c = search (needs, put-out)
 

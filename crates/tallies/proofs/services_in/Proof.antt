@@ -3,14 +3,10 @@ use borrow.Author.Needs.{needs}
 use Rattle.tallies.proofs.services_in.Statement.{statement}
 use Rattle.tallies.proofs.services_in.Tie as tie
 use Rattle.tallies.proofs.services_in.Reads as reads
-use Rattle.tallies.proofs.services_in.Lts as lts
-use Rattle.tallies.proofs.bits_of.Reads as bits-of-reads
 
--- src/lib.rt:152:5
 bits-of-requires : tie.Need-bits-of-requires
 bits-of-requires c κs = search needs
 
--- src/lib.rt:149:1
 returns : tie.Need-returns
 returns c = search services-are
 

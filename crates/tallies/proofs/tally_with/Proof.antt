@@ -3,71 +3,49 @@ use borrow.Author.Needs.{needs}
 use Rattle.tallies.proofs.tally_with.Statement.{statement}
 use Rattle.tallies.proofs.tally_with.Tie as tie
 use Rattle.tallies.proofs.tally_with.Reads as reads
-use Rattle.tallies.proofs.tally_with.Lts as lts
-use Rattle.tallies.proofs.is_lost.Reads as is-lost-reads
-use Rattle.tallies.proofs.is_new.Reads as is-new-reads
-use Rattle.tallies.proofs.is_old.Reads as is-old-reads
-use Rattle.tallies.proofs.one_more.Reads as one-more-reads
-use Rattle.text.proofs.all.Reads as all-reads
-use Rattle.text.proofs.any.Reads as any-reads
 
--- src/lib.rt:101:32
 is-new-requires : tie.Need-is-new-requires
 is-new-requires c κs = search needs
 
--- src/lib.rt:101:15
 one-more-requires : tie.Need-one-more-requires
 one-more-requires c κs = search needs
 
--- src/lib.rt:102:38
 is-old-requires : tie.Need-is-old-requires
 is-old-requires c κs = search needs
 
--- src/lib.rt:102:18
 one-more-requires-2 : tie.Need-one-more-requires-2
 one-more-requires-2 c κs = search needs
 
--- src/lib.rt:103:42
 is-lost-requires : tie.Need-is-lost-requires
 is-lost-requires c κs = search needs
 
--- src/lib.rt:103:20
 one-more-requires-3 : tie.Need-one-more-requires-3
 one-more-requires-3 c κs = search needs
 
--- src/lib.rt:104:33
 all-requires : tie.Need-all-requires
 all-requires c κs = search needs
 
--- src/lib.rt:104:15
 any-requires : tie.Need-any-requires
 any-requires c κs = search needs
 
--- src/lib.rt:105:33
 all-requires-2 : tie.Need-all-requires-2
 all-requires-2 c κs = search needs
 
--- src/lib.rt:105:15
 any-requires-2 : tie.Need-any-requires-2
 any-requires-2 c κs = search needs
 
--- src/lib.rt:106:31
 all-requires-3 : tie.Need-all-requires-3
 all-requires-3 c κs = search needs
 
--- src/lib.rt:106:14
 any-requires-3 : tie.Need-any-requires-3
 any-requires-3 c κs = search needs
 
--- src/lib.rt:107:31
 all-requires-4 : tie.Need-all-requires-4
 all-requires-4 c κs = search needs
 
--- src/lib.rt:107:14
 any-requires-4 : tie.Need-any-requires-4
 any-requires-4 c κs = search needs
 
--- src/lib.rt:95:1
 returns : tie.Need-returns
 returns c = (search tally-is, search needs)
 

@@ -2,22 +2,16 @@ use Rattle.tallies.specs.Tallies.{targetIn}
 use borrow.Author.Needs.{needs}
 use Rattle.tallies.proofs.target_in.Statement.{statement}
 use Rattle.tallies.proofs.target_in.Tie as tie
-use Rattle.tallies.proofs.target_in.Reads as reads
-use Rattle.tallies.proofs.target_in.Lts as lts
 
--- src/lib.rt:35:19
 array-read-t5 : tie.Need-array-read-t5
 array-read-t5 c = search needs
 
--- src/lib.rt:36:14
 array-read-t8 : tie.Need-array-read-t8
 array-read-t8 c = search needs
 
--- src/lib.rt:37:15
 array-read-t11 : tie.Need-array-read-t11
 array-read-t11 c = search needs
 
--- src/lib.rt:30:1
 returns : tie.Need-returns
 unfolding targetIn
 returns c = search needs
