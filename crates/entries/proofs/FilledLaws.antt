@@ -4,14 +4,12 @@ use mathlib.Core.List.{List, [], _∷_, _++_, map}
 use Prim.Native.Nat.{ℕ, zero, suc, _+_, _*_, _-_, _/_, _≤_, _<_}
 use native.Mathlib.Nat.{not-suc-le-zero, le-of-suc-le-suc, zero-add}
 use native.Mathlib.Omega.{arith}
-use lib.ListN.{length, getD, take, drop, List·getD-append}
+use lib.ListN.{length, getD, drop, List·getD-append}
 use lib.Seq.{sets, sets-eq, length-sets, drop-at}
-use Rattle.adif.specs.Records.{records}
 use Rattle.adif.specs.Reading.{Row as Field, readText}
 use Rattle.hand.specs.Rows.{numbered}
 use Rattle.reader.specs.Table.{laidFrom, zeros}
-use Rattle.chain.specs.Chain.{col}
-use Rattle.plan.specs.Entry.{Entry, noEntry, entriesFrom, entriesOf}
+use Rattle.plan.specs.Entry.{noEntry, entriesFrom, entriesOf}
 use Rattle.entries.specs.Row.{Row}
 use Rattle.entries.specs.Filled.{ReadInto, entriesRead, Says, Answers, Said, Answered, Bare}
 use Rattle.entries.specs.Walked.{rowsOfRecords, entryRows}

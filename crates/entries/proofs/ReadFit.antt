@@ -17,7 +17,7 @@ use Rattle.refusals.specs.declared.Verdict.the-variants.{Accepted, Refused as R
 use Rattle.tags.specs.Tags.{tagAt}
 use Rattle.tags.specs.declared.Tag.{Tag}
 use Rattle.tags.specs.declared.Tag.the-variants.{End, Eoh, Eor, Eof, Field, Refused}
-use Rattle.adif.specs.Records.{Item, eoh, eor, field, Turn, on, no, then, total, put, close, finish, act, records, refused}
+use Rattle.adif.specs.Records.{field, Turn, on, no, then, total, put, close, finish, act, records, refused}
 use Rattle.adif.specs.Reading.{Row, RowsRead, State, rowName, rows, onto, readBy, accepted, readTags, readText}
 
 abbrev pub AllFit : List (List Row) → Type 0

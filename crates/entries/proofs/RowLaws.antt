@@ -1,15 +1,13 @@
 -- The row of a record, and what it says of the record as the plan's definition sees it. Assumes nothing.
-use mathlib.Core.Path.{_≡_, refl, sym, ap, _∙_}
+use mathlib.Core.Path.{_≡_, refl, _∙_}
 use mathlib.Core.Bool.{Bool, true, false}
 use mathlib.Core.List.{List, [], _∷_}
-use Prim.Native.Nat.{ℕ, zero, suc, _+_, _*_, _/_, _%_, _≤_, _<_}
+use Prim.Native.Nat.{ℕ, _+_, _*_, _≤_}
 use native.Mathlib.Omega.{arith}
 use lib.ListN.{length, getD}
-use Rattle.text.specs.Pick.{pick, either}
+use Rattle.text.specs.Pick.{either}
 use Rattle.rowcheck.specs.Check
-use Rattle.refusals.specs.declared.Verdict.{Verdict}
 use Rattle.tables.specs.Place.{bytes}
-use Rattle.tables.specs.declared.Place.{Place}
 use Rattle.times.specs.Moments.{momentOf}
 use Rattle.times.specs.declared.Moment.{Moment}
 use Rattle.times.specs.declared.Moment.the-variants.{At, Never}
@@ -23,10 +21,10 @@ use Rattle.index.specs.Rows.{low, high, joined, hasMoment, secondsIn, momentFro
 use Rattle.writer.specs.Rows.{rowsFrom}
 use Rattle.confirmations.specs.Confirmations.{answersOf, unanswered}
 use Rattle.confirmations.specs.declared.Answer.{Answer}
-use Rattle.usable.specs.Reasons.{reasonIn, reasonOf}
-use Rattle.plan.specs.Entry.{Entry, isRefused, entryWith, entryOf}
+use Rattle.usable.specs.Reasons.{reasonIn}
+use Rattle.plan.specs.Entry.{isRefused, entryWith, entryOf}
 use Rattle.plan.specs.Fates.{bearsAny}
-use Rattle.entries.specs.Row.{Row, oneIf, fileCode, rowOf, rowWith, entryRow}
+use Rattle.entries.specs.Row.{Row, oneIf, rowOf, rowWith, entryRow}
 use Rattle.entries.specs.Filled.{Says, Answers}
 use Rattle.entries.specs.Walked.{judgedAs, judgedOf}
 use Rattle.entries.specs.declared.Judged.{Judged}

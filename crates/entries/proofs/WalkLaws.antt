@@ -1,23 +1,21 @@
 -- The walk over a table that a reading left: the rows of one record after the other. Assumes nothing.
 use mathlib.Core.Path.{_≡_, refl, sym, ap, _∙_}
-use mathlib.Core.Bool.{Bool, true, false}
 use mathlib.Core.List.{List, [], _∷_, _++_, append-assoc, append-nil, map}
 use Prim.Native.Nat.{ℕ, zero, suc, _+_, _*_, _-_, _/_, _≤_, _<_}
 use native.Mathlib.Nat.{not-suc-le-zero, zero-add}
 use native.Mathlib.Numerals.{add-one}
 use native.Mathlib.Omega.{arith}
 use lib.Dec.{eqb}
-use lib.ListN.{length, getD, drop, set, replicate, length-append, length-drop, length-replicate}
+use lib.ListN.{length, getD, drop, set, length-append, length-drop}
 use lib.Seq.{getD-drop, drop-drop, drop-at, sets}
 use borrow.Author.Tests.{eq-eqb, ne-eqb}
 use Rattle.text.specs.Pick.{pick}
-use Rattle.adif.specs.Records.{records, refused, total}
+use Rattle.adif.specs.Records.{records, refused}
 use Rattle.adif.specs.Reading.{Row as Field, RowsRead, readText}
 use Rattle.hand.specs.Rows.{numbered, laid}
 use Rattle.hand.proofs.TableLaws.{laid-length}
 use Rattle.reader.specs.Table.{laidFrom, zeros, answerOf, tableOf}
 use Rattle.reader.specs.declared.Reading.the-variants.{Read}
-use Rattle.reader.proofs.LaidLaws.{laidFrom-length}
 use Rattle.rowcheck.specs.Check.{recordIn}
 use Rattle.rowcheck.specs.Check
 use Rattle.writer.specs.Rows.{rowAt, rowsFrom}

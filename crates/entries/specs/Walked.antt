@@ -1,13 +1,12 @@
 -- The rows of the records that were read, one after the other, and what is looked at for each.
 use Prim.Native.Nat.{ℕ, suc, _+_}
 use mathlib.Core.Path.{_≡_, refl}
-use mathlib.Core.Bool.{Bool, true, false}
+use mathlib.Core.Bool.{Bool}
 use mathlib.Core.List.{List, [], _∷_, map}
 use lib.Dec.{eqb}
 use lib.ListN.{length}
 use Rattle.text.specs.Pick.{pick}
-use Rattle.text.specs.Space.{blank, trimmed}
-use Rattle.adif.specs.Records.{Outcome, records, refused}
+use Rattle.adif.specs.Records.{records, refused}
 use Rattle.adif.specs.Reading.{Row as Field, RowsRead}
 use Rattle.hand.specs.Rows.{numbered}
 use Rattle.rowcheck.specs.Check

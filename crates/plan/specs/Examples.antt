@@ -53,6 +53,11 @@ download-ignores : fatesOf (pos 1800) true [] three ≡ 7 ∷ 7 ∷ 4 ∷ []
 unfolding fatesTo fateAt fateOf found firstFrom
 download-ignores = refl
 
+-- what is unusable stays so, whatever it bears
+unusable-first : fatesOf (pos 1800) false [] (record { call = []; mode = []; band = []; moment = Never; reason = 1; answers = record { present = true; service = 1; date = stands 10 8 } ∷ [] } ∷ []) ≡ 4 ∷ []
+unfolding fatesTo fateAt fateOf repeats found firstFrom over
+unusable-first = refl
+
 -- only an importable record makes a later one a duplicate: the third is within the window of the second, which is none
 abbrev row : List Entry
 row = ssb (ascii "W1AW") (At 0) [] ∷ ssb (ascii "W1AW") (At 1800) [] ∷ ssb (ascii "W1AW") (At 3600) [] ∷ []

@@ -11,7 +11,8 @@ use Rattle.chain.specs.Chain.{col}
 use Rattle.adif.specs.Records.{records, refused}
 use Rattle.adif.specs.Reading.{RowsRead, readText}
 use Rattle.reader.specs.Table.{answerOf}
-use Rattle.reader.specs.declared.Reading.the-variants.{Read}
+use Rattle.reader.specs.declared.Reading.{Reading}
+use Rattle.reader.specs.declared.Reading.the-variants.{Read, Refused as Unread}
 use Rattle.contacts.specs.Contacts.{Contact}
 use Rattle.contacts.specs.Lists.{contactsOf, countOf}
 use Rattle.search.specs.Search.{Indexed}
@@ -25,7 +26,7 @@ use Rattle.entries.proofs.ReadFit.{FitRead, text-fit}
 use Rattle.fates.specs.Fated as fates
 use Rattle.fates.specs.Fated.{Fated}
 use Rattle.fates.proofs.FoundLaws.{hit-at, found-within}
-use Rattle.cards.specs.Carded as cards
+use Rattle.cards.specs.Carded as carded
 use Rattle.cards.specs.Carded.{hitsIn, cardRow, cardedAs, cardsAfter, newIn}
 use Rattle.cards.specs.declared.Carded.{Carded}
 use Rattle.planner.specs.Phases.{countedBy, Recorded, planRead}
@@ -33,10 +34,7 @@ use Rattle.planner.specs.Phases.{countedBy, Recorded, planRead}
 -- ---- few records
 few-read : (r : RowsRead) (n used : ℕ) → FitRead r → answerOf r ≡ Read n used → n ≤ 65535
 few-read (records rs) n used f e = let l : length rs ≡ n = cc in omega (arith, f .1, l)
-few-read (refused w) n used f e = absurd (no w e)
-  where
-    no : (w : _) → answerOf (refused w) ≡ Read n used → ⊥
-    no w q = cc
+few-read (refused w) n used f e = absurd (let z : _≡_ {A = Reading} (Unread w) (Read n used) = e in cc)
 
 pub few-records : (text table : List ℕ) (n : ℕ) → ReadInto text table n → n ≤ 65535
 few-records text table n R = few-read (readText text (length table / 5)) n (R .used) (text-fit text (length table / 5)) (R .answer)
@@ -123,7 +121,7 @@ module _ (text list table : List ℕ) (window : ℤ) (download : Bool) (contacts
     no-heads : (j : ℕ) → j < n → col settled j 25 ≡ 0
     no-heads j h = ap (λ (x : List ℕ). getD x 21 0) (K .kept j) ∙ B .card-heads j h
 
-    pub now-settled : cards.Settled text table list contacts index n settled
+    pub now-settled : Settled text table list contacts index n settled
     now-settled = record {
       small = R .small;
       few = omega (arith, few-records text table n R);
@@ -151,7 +149,7 @@ module _ (text list table : List ℕ) (window : ℤ) (download : Bool) (contacts
         (l : length filled ≡ length rows) (d : drop n filled ≡ drop n rows)
         (C : (es : List Entry) → Said text n es settled → Answered text table n es settled → r ≡ cardedAs (contactsOf list) es n settled (length cards))
         (D : (es : List Entry) → Said text n es settled → Answered text table n es settled → length (newIn (contactsOf list) es n settled) ≤ length cards → cards′ ≡ cardsAfter (contactsOf list) es n settled cards)
-        (L : cards.Kept n settled last) (m : length cards′ ≡ length cards) where
+        (L : carded.Kept n settled last) (m : length cards′ ≡ length cards) where
       answer-is : r ≡ countedBy plan (length cards)
       unfolding cardedAs planned planFrom
       answer-is = C es still-said still-answered ∙ rw (settled-hits, settled-fates, S .counted) refl

@@ -39,7 +39,6 @@ use Rattle.planner.specs.Phases.{countedBy, Recorded, planRead, keptRow,
 use Rattle.planner.specs.declared.Planned.{Planned}
 use Rattle.planner.specs.declared.Planned.the-variants.{Made, Refused}
 use Rattle.planner.proofs.KeptLaws.{kept-are}
-use Rattle.planner.proofs.PhaseLaws.{fates-many}
 
 -- ---- a text that was read has records
 read-some : (r : RowsRead) (n used : ℕ) → answerOf r ≡ Read n used → (rs : List (List Field)) × (r ≡ records rs) × (length rs ≡ n) × (total rs ≡ used)

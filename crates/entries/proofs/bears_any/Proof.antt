@@ -2,7 +2,6 @@ use Rattle.entries.proofs.RowLaws.{bears-four}
 use borrow.Author.Needs.{needs}
 use Rattle.entries.proofs.bears_any.Statement.{statement}
 use Rattle.entries.proofs.bears_any.Tie as tie
-use Rattle.entries.proofs.bears_any.Reads as reads
 
 array-copy-out-is-present : tie.Need-array-copy-out-is-present
 array-copy-out-is-present c = search needs

@@ -7,7 +7,6 @@ use Rattle.entries.proofs.WalkLaws.{Filling, fill-start, fill-few, fill
 use Rattle.entries.proofs.FilledLaws.{filled-length, filled-behind, filled-said, filled-answered, filled-bare}
 use Rattle.entries.proofs.fill.Statement.{statement}
 use Rattle.entries.proofs.fill.Tie as tie
-use Rattle.entries.proofs.fill.Reads as reads
 
 abbrev Inv-loop : tie.InvT-loop
 Inv-loop text table n rows₀ first₀ k₀ rows first k =

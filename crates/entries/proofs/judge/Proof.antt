@@ -3,7 +3,6 @@ use Rattle.entries.proofs.JudgeLaws.{judged-is}
 use borrow.Author.Needs.{needs}
 use Rattle.entries.proofs.judge.Statement.{statement}
 use Rattle.entries.proofs.judge.Tie as tie
-use Rattle.entries.proofs.judge.Reads as reads
 
 name-of-requires : tie.Need-name-of-requires
 name-of-requires c κs = search needs

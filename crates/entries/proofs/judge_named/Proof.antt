@@ -4,7 +4,6 @@ use Rattle.entries.proofs.JudgeLaws.{judged-texts}
 use borrow.Author.Needs.{needs}
 use Rattle.entries.proofs.judge_named.Statement.{statement}
 use Rattle.entries.proofs.judge_named.Tie as tie
-use Rattle.entries.proofs.judge_named.Reads as reads
 
 array-share-prefix-called : tie.Need-array-share-prefix-called
 array-share-prefix-called c = search needs

@@ -2,7 +2,6 @@ use Rattle.entries.proofs.RowLaws.{record-row}
 use borrow.Author.Needs.{needs}
 use Rattle.entries.proofs.row_of_record.Statement.{statement}
 use Rattle.entries.proofs.row_of_record.Tie as tie
-use Rattle.entries.proofs.row_of_record.Reads as reads
 
 map-rows-requires : tie.Need-map-rows-requires
 map-rows-requires c κs = search needs

@@ -2,8 +2,6 @@ use Rattle.entries.proofs.RowLaws.{row-is}
 use borrow.Author.Needs.{needs}
 use Rattle.entries.proofs.row_with.Statement.{statement}
 use Rattle.entries.proofs.row_with.Tie as tie
-use Rattle.entries.proofs.row_with.Reads as reads
-use Rattle.dedupe.proofs.moment.Reads as moment-reads
 
 array-copy-out-call : tie.Need-array-copy-out-call
 array-copy-out-call c = search needs

@@ -2,7 +2,6 @@ use Rattle.dedupe.proofs.KeyLaws.{tested, failed}
 use borrow.Author.Needs.{needs}
 use Rattle.entries.proofs.shown.Statement.{statement}
 use Rattle.entries.proofs.shown.Tie as tie
-use Rattle.entries.proofs.shown.Reads as reads
 
 in-text-requires : tie.Need-in-text-requires
 in-text-requires c κs = search needs
