@@ -8,6 +8,7 @@ use lib.IntN.{ℤ}
 use lib.ListN.{length, getD, take, drop, length-map, length-append}
 use lib.Seq.{take-suc, take-all}
 use Rattle.chain.specs.Chain.{col}
+use Rattle.refusals.specs.declared.Refusal.{Refusal}
 use Rattle.adif.specs.Records.{records, refused}
 use Rattle.adif.specs.Reading.{RowsRead, readText}
 use Rattle.reader.specs.Table.{answerOf}
@@ -27,14 +28,18 @@ use Rattle.fates.specs.Fated as fates
 use Rattle.fates.specs.Fated.{Fated}
 use Rattle.fates.proofs.FoundLaws.{hit-at, found-within}
 use Rattle.cards.specs.Carded as carded
+use Rattle.cards.specs.Steps.{Settled}
 use Rattle.cards.specs.Carded.{hitsIn, cardRow, cardedAs, cardsAfter, newIn}
 use Rattle.cards.specs.declared.Carded.{Carded}
 use Rattle.planner.specs.Phases.{countedBy, Recorded, planRead}
 
 -- ---- few records
+pub unread-read : {P : Type 0} (why : Refusal) (n used : ℕ) → Unread why ≡ Read n used → P
+unread-read why n used e = absurd (let z : _≡_ {A = ℕ} 0 1 = cc in omega arith)
+
 few-read : (r : RowsRead) (n used : ℕ) → FitRead r → answerOf r ≡ Read n used → n ≤ 65535
 few-read (records rs) n used f e = let l : length rs ≡ n = cc in omega (arith, f .1, l)
-few-read (refused w) n used f e = absurd (let z : _≡_ {A = Reading} (Unread w) (Read n used) = e in cc)
+few-read (refused w) n used f e = unread-read w n used e
 
 pub few-records : (text table : List ℕ) (n : ℕ) → ReadInto text table n → n ≤ 65535
 few-records text table n R = few-read (readText text (length table / 5)) n (R .used) (text-fit text (length table / 5)) (R .answer)

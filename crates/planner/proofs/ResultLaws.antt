@@ -39,11 +39,12 @@ use Rattle.planner.specs.Phases.{countedBy, Recorded, planRead, keptRow,
 use Rattle.planner.specs.declared.Planned.{Planned}
 use Rattle.planner.specs.declared.Planned.the-variants.{Made, Refused}
 use Rattle.planner.proofs.KeptLaws.{kept-are}
+use Rattle.planner.proofs.PhaseLaws.{unread-read}
 
 -- ---- a text that was read has records
 read-some : (r : RowsRead) (n used : ℕ) → answerOf r ≡ Read n used → (rs : List (List Field)) × (r ≡ records rs) × (length rs ≡ n) × (total rs ≡ used)
 read-some (records rs) n used e = (rs, refl, cc, cc)
-read-some (refused w) n used e = absurd (let z : _≡_ {A = Reading} (Unread w) (Read n used) = e in cc)
+read-some (refused w) n used e = unread-read w n used e
 
 -- ---- an answer that refuses, and nothing left
 pub stopped : (a : Asked) (why : Refusal) → Refused why ≡ plannedAs a → (table : List ℕ) (index fates cards : List (List ℕ))
@@ -61,21 +62,24 @@ laid-padded rows n blank m w l h d =
 -- a text that was refused
 unread-is : (a : Asked) (contacts largest : ℕ) (why : Refusal) (r : RowsRead) → answerOf r ≡ Unread why → Refused why ≡ plannedRead a contacts largest r
 unfolding plannedRead
-unread-is a contacts largest why (records rs) e = absurd (let z : _≡_ {A = Reading} (Read (length rs) (total rs)) (Unread why) = e in cc)
+unread-is a contacts largest why (records rs) e = unread-read why (length rs) (total rs) (sym e)
 unread-is a contacts largest why (refused w) e = let z : w ≡ why = cc in ap (λ (x : Refusal). Refused x) (sym z)
 
 -- what the phases said
+full-counted : {P : Type 0} (c already unmatched : ℕ) → Full ≡ Counted c already unmatched → P
+full-counted c already unmatched e = absurd (let z : _≡_ {A = ℕ} 0 1 = cc in omega arith)
+
 counted-some : (p : Plan) (m c already unmatched : ℕ) → countedBy p m ≡ Counted c already unmatched
     → (leb (length (p .confirmations)) m ≡ true) × (c ≡ length (p .confirmations)) × (already ≡ p .already) × (unmatched ≡ p .unmatched)
 counted-some p m c already unmatched e =
     cases (leb (length (p .confirmations)) m)
     (λ u. let z : Counted (length (p .confirmations)) (p .already) (p .unmatched) ≡ Counted c already unmatched = rw u at e in (u, cc, cc, cc))
-    (λ u. absurd (let z : _≡_ {A = Carded} Full (Counted c already unmatched) = rw u at e in cc))
+    (λ u. full-counted c already unmatched (rw u at e))
 
 counted-full : (p : Plan) (m : ℕ) → countedBy p m ≡ Full → leb (length (p .confirmations)) m ≡ false
 counted-full p m e =
     cases (leb (length (p .confirmations)) m)
-    (λ u. absurd (let z : _≡_ {A = Carded} (Counted (length (p .confirmations)) (p .already) (p .unmatched)) Full = rw u at e in cc))
+    (λ u. full-counted (length (p .confirmations)) (p .already) (p .unmatched) (sym (rw u at e)))
     (λ u. u)
 
 -- ---- after the index is built
@@ -110,12 +114,15 @@ module _ (text list : List ℕ) (window : ℤ) (download : Bool) (contacts large
   rs = read-some (readOf b) n used (R .answer) .0
 
   rs-read : readOf b ≡ records rs
+  unfolding rs read-some
   rs-read = read-some (readOf b) n used (R .answer) .1
 
   rs-many : length rs ≡ n
+  unfolding rs read-some
   rs-many = read-some (readOf b) n used (R .answer) .2
 
   rs-rows : total rs ≡ used
+  unfolding rs read-some
   rs-rows = read-some (readOf b) n used (R .answer) .3
 
   by-read : plannedAs b
@@ -178,7 +185,7 @@ small-read : (s : List ℕ) (room n used : ℕ) → answerOf (readText s room) �
 unfolding readText ofText
 small-read s room n used e =
     cases (ltb 16777216 (length s))
-    (λ u. absurd (let z : _≡_ {A = Reading} (Unread TooLong) (Read n used) = rw u at e in cc))
+    (λ u. unread-read TooLong n used (rw u at e))
     (λ u. ltb-false 16777216 (length s) u)
 
 pub read-as : (text was table : List ℕ) (n used : ℕ) (r : Reading) → r ≡ answerTo text was → r ≡ Read n used → table ≡ tableAfter text was → length table ≡ length was → ReadAs text table n used
