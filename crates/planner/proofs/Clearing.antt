@@ -1,11 +1,11 @@
 -- A table cleared from its front on. Assumes nothing.
 use mathlib.Core.Path.{_≡_, refl, ap, _∙_}
-use mathlib.Core.List.{List}
+use mathlib.Core.List.{List, _++_}
 use Prim.Native.Nat.{ℕ, suc, _+_, _-_, _≤_, _<_}
 use native.Mathlib.Nat.{sub-zero}
 use native.Mathlib.Numerals.{add-one}
 use native.Mathlib.Omega.{arith}
-use lib.ListN.{length, set, replicate, length-replicate}
+use lib.ListN.{length, take, set, replicate, length-replicate}
 use lib.Seq.{sets}
 use Rattle.index.proofs.RowLaws.{sets-all}
 
@@ -29,3 +29,7 @@ module _ {A : Type 0} (blank : A) (was : List A) where
     clear-end h e =
         let z : length was - i ≡ 0 = omega arith in
         (rw z at e) ∙ sets-all was (replicate (length was) blank) (length-replicate (length was) blank)
+
+-- all numbers of a table from its front on
+pub cleared-whole : (was now : List ℕ) → now ≡ take 0 was ++ replicate (length was - 0) 0 → now ≡ replicate (length was) 0
+cleared-whole was now e = e ∙ ap (λ (k : ℕ). replicate k 0) (sub-zero (length was))

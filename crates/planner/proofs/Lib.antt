@@ -2,3 +2,4 @@ pub mod Clearing
 pub mod KeptLaws
 pub mod PhaseLaws
 pub mod ResultLaws
+pub mod AnswerLaws

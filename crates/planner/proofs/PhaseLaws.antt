@@ -62,10 +62,14 @@ module _ (rows : List Row) (n : ℕ) (xs : List ℕ) (l : n ≡ length xs) where
   pub hits-are : ((k : ℕ) → k < n → col rows k 22 ≡ getD xs k 0) → hitsIn rows n ≡ xs
   hits-are e = hits-take e n (omega arith) ∙ take-all n xs (omega (arith, l))
 
-fates-many : (w : ℤ) (download : Bool) (es : List Entry) (hits : List ℕ) (k : ℕ) → length (fatesTo w download es hits k) ≡ k
+pub fates-many : (w : ℤ) (download : Bool) (es : List Entry) (hits : List ℕ) (k : ℕ) → length (fatesTo w download es hits k) ≡ k
 unfolding fatesTo
 fates-many w download es hits zero = refl
 fates-many w download es hits (suc k) = length-append (fatesTo w download es hits k) _ ∙ omega (arith, fates-many w download es hits k)
+
+-- ---- what the phases ask for
+pub few-enough : (text table : List ℕ) (n : ℕ) → ReadInto text table n → n < 4294967296
+few-enough text table n R = omega (arith, few-records text table n R)
 
 -- ---- what stays said where the fates are settled
 module _ (r s : Row) (e : fates.keptOf s ≡ fates.keptOf r) where
@@ -90,7 +94,7 @@ module _ (r s : Row) (e : fates.keptOf s ≡ fates.keptOf r) where
   }
 
 module _ (text list table : List ℕ) (window : ℤ) (download : Bool) (contacts n : ℕ) (index : List Row) (I : Indexed list contacts index) (R : ReadInto text table n)
-    (rows filled : List Row)
+    (filled : List Row)
     (S : Said text n (entriesRead text table) filled)
     (A : Answered text table n (entriesRead text table) filled)
     (B : Bare n filled) where
@@ -150,7 +154,7 @@ module _ (text list table : List ℕ) (window : ℤ) (download : Bool) (contacts
     unfolding planned planFrom
     new-are = rw (settled-hits, settled-fates, S .counted) refl
 
-    module _ (last : List Row) (cards cards′ : List (List ℕ)) (r : Carded)
+    module _ (rows last : List Row) (cards cards′ : List (List ℕ)) (r : Carded)
         (l : length filled ≡ length rows) (d : drop n filled ≡ drop n rows)
         (C : (es : List Entry) → Said text n es settled → Answered text table n es settled → r ≡ cardedAs (contactsOf list) es n settled (length cards))
         (D : (es : List Entry) → Said text n es settled → Answered text table n es settled → length (newIn (contactsOf list) es n settled) ≤ length cards → cards′ ≡ cardsAfter (contactsOf list) es n settled cards)

@@ -34,7 +34,7 @@ use Rattle.entries.specs.Filled.{ReadInto, entriesRead}
 use Rattle.cards.specs.Carded.{cardRow, noCard}
 use Rattle.cards.specs.declared.Carded.{Carded}
 use Rattle.cards.specs.declared.Carded.the-variants.{Counted, Full}
-use Rattle.planner.specs.Planning.{Asked, asked, readOf, planFor, made, plannedRead, plannedBy, plannedAs, fateRow, fateRows, padded, tableBy, indexBy, fatesBy, cardsBy, PlannedTo}
+use Rattle.planner.specs.Planning.{Asked, askedOf, asked, readOf, planFor, made, plannedRead, plannedBy, plannedAs, fateRow, fateRows, padded, tableBy, indexBy, fatesBy, cardsBy, PlannedTo}
 use Rattle.planner.specs.Phases.{countedBy, Recorded, planRead, keptRow, keptRows, Begun, ReadAs}
 use Rattle.planner.specs.declared.Planned.{Planned}
 use Rattle.planner.specs.declared.Planned.the-variants.{Made, Refused}
@@ -52,6 +52,13 @@ pub stopped : (a : Asked) (why : Refusal) → Refused why ≡ plannedAs a → (t
     → PlannedTo a (Refused why) table index fates cards
 unfolding tableBy indexBy fatesBy cardsBy
 stopped a why e table index fates cards t i f c = record { answer = e; tabled = t ∙ rw (← e) refl; indexed = i ∙ rw (← e) refl; fated = f ∙ rw (← e) refl; carded = c ∙ rw (← e) refl }
+
+pub stopped-by : (a : Asked) (why : Refusal) → Refused why ≡ plannedAs a → (table : List ℕ) (index fates cards : List (List ℕ)) (t i f c : ℕ)
+    → table ≡ replicate t 0 → index ≡ replicate i Index.noRow → fates ≡ replicate f noRow → cards ≡ replicate c noCard
+    → t ≡ a .numbers → i ≡ a .contacts → f ≡ a .records → c ≡ a .confirmations
+    → PlannedTo a (Refused why) table index fates cards
+stopped-by a why e table index fates cards t i f c T I F C et ei ef ec =
+    stopped a why e table index fates cards (T ∙ ap (λ (k : ℕ). replicate k 0) et) (I ∙ ap (λ (k : ℕ). replicate k Index.noRow) ei) (F ∙ ap (λ (k : ℕ). replicate k noRow) ef) (C ∙ ap (λ (k : ℕ). replicate k noCard) ec)
 
 -- rows in front of zeros
 pub laid-padded : (rows : List (List ℕ)) (n : ℕ) (blank : List ℕ) (m : ℕ) (w : List (List ℕ)) → length w ≡ n → n ≤ length rows → drop n rows ≡ drop n (replicate m blank) → sets rows 0 w ≡ padded w blank m
@@ -91,12 +98,16 @@ module _ (text list : List ℕ) (window : ℤ) (download : Bool) (contacts large
   unfolding plannedAs plannedBy
   by-list = rw (B .listed) refl
 
-  pub begun-indexed : Indexed list contacts index
-  unfolding Indexed
-  begun-indexed = (largest, B .listed, B .indexed)
+  pub unread : (why : Refusal) (r : Reading) → r ≡ answerTo text table₀ → r ≡ Unread why → Refused why ≡ plannedAs a
+  unfolding answerTo
+  unread why r ea er = unread-is a contacts largest why (readOf a) (sym ea ∙ er) ∙ sym by-list
 
-  pub unread : (why : Refusal) → answerOf (readOf a) ≡ Unread why → Refused why ≡ plannedAs a
-  unread why e = unread-is a contacts largest why (readOf a) e ∙ sym by-list
+pub begun-indexed : (list : List ℕ) (contacts largest : ℕ) (index fates cards : List (List ℕ)) → Begun list contacts largest index fates cards → Indexed list contacts index
+unfolding Indexed
+begun-indexed list contacts largest index fates cards B = (largest, B .listed, B .indexed)
+
+pub read-into : (text table : List ℕ) (n used : ℕ) → ReadAs text table n used → ReadInto text table n
+read-into text table n used R = record { used = used; small = R .small; answer = R .answer; shown = R .shown }
 
 -- ---- and the text is read
 module _ (text list : List ℕ) (window : ℤ) (download : Bool) (contacts largest n used : ℕ) (table : List ℕ) (index fates cards : List (List ℕ))
@@ -106,9 +117,6 @@ module _ (text list : List ℕ) (window : ℤ) (download : Bool) (contacts large
 
   abbrev plan : Plan
   plan = planRead text list window download table
-
-  pub read-into : ReadInto text table n
-  read-into = record { used = used; small = R .small; answer = R .answer; shown = R .shown }
 
   rs : List (List Field)
   rs = read-some (readOf b) n used (R .answer) .0
@@ -136,6 +144,11 @@ module _ (text list : List ℕ) (window : ℤ) (download : Bool) (contacts large
   module _ (h : n ≤ length fates) (r : Carded) (rows′ cards′ : List (List ℕ)) (P : Recorded plan n fates cards r rows′ cards′) where
     pub short-cards : r ≡ Full → Refused ShortTable ≡ plannedAs b
     short-cards e = sym (by-read ∙ rw (le-leb n (length fates) h, counted-full plan (length cards) (sym (P .answer) ∙ e)) refl)
+
+    pub full-stopped : r ≡ Full → (table″ : List ℕ) (index″ fates″ cards″ : List (List ℕ)) → table″ ≡ replicate (length table) 0 → index″ ≡ replicate (length index) Index.noRow
+        → fates″ ≡ replicate (length rows′) noRow → cards″ ≡ replicate (length cards′) noCard → PlannedTo b (Refused ShortTable) table″ index″ fates″ cards″
+    full-stopped e table″ index″ fates″ cards″ T I F C =
+        stopped-by b ShortTable (short-cards e) table″ index″ fates″ cards″ (length table) (length index) (length rows′) (length cards′) T I F C refl refl (P .as-many) (P .as-many-cards)
 
     pub kept-room : n ≤ length rows′
     kept-room = omega (arith, P .as-many)
@@ -195,10 +208,18 @@ read-as text was table n used r ea er et l =
     record { small = small-read text (length table / 5) n used e; answer = e; shown = rw l et }
 
 -- ---- what is asked depends on the lengths of the tables alone
-module _ (text list : List ℕ) (window v : ℤ) (download : Bool) (t t′ : List ℕ) (i i′ f f′ c c′ : List (List ℕ)) (r : Planned) (table : List ℕ) (index fates cards : List (List ℕ)) where
-  pub moved : v ≡ window → length t′ ≡ length t → length i′ ≡ length i → length f′ ≡ length f → length c′ ≡ length c
-      → PlannedTo (asked text list v download t′ i′ f′ c′) r table index fates cards → PlannedTo (asked text list window download t i f c) r table index fates cards
-  moved ev et ei ef ec k = rw (ev, et, ei, ef, ec) at k
+module _ (text list : List ℕ) (window v : ℤ) (download : Bool) (t i f c t′ i′ f′ c′ : ℕ) (r : Planned) (table : List ℕ) (index fates cards : List (List ℕ)) where
+  pub moved : PlannedTo (askedOf text list v download t′ i′ f′ c′) r table index fates cards → v ≡ window → t′ ≡ t → i′ ≡ i → f′ ≡ f → c′ ≡ c → PlannedTo (askedOf text list window download t i f c) r table index fates cards
+  moved k ev et ei ef ec = rw (ev, et, ei, ef, ec) at k
+
+-- ---- the text is refused
+pub unread-stopped : (text list : List ℕ) (window : ℤ) (download : Bool) (contacts largest : ℕ) (was table : List ℕ) (index fates cards : List (List ℕ)) → Begun list contacts largest index fates cards
+    → (r : Reading) (why : Refusal) → r ≡ answerTo text was → r ≡ Unread why → table ≡ tableAfter text was
+    → (table′ : List ℕ) (index′ fates′ cards′ : List (List ℕ))
+    → table′ ≡ replicate (length table) 0 → index′ ≡ replicate (length index) Index.noRow → fates′ ≡ replicate (length fates) noRow → cards′ ≡ replicate (length cards) noCard
+    → length table ≡ length was → PlannedTo (asked text list window download was index fates cards) (Refused why) table′ index′ fates′ cards′
+unread-stopped text list window download contacts largest was table index fates cards B r why ea er et table′ index′ fates′ cards′ T I F C l =
+    stopped-by (asked text list window download was index fates cards) why (unread text list window download contacts largest was index fates cards B why r ea er) table′ index′ fates′ cards′ (length table) (length index) (length fates) (length cards) T I F C l refl refl refl
 
 -- ---- the list is refused
 pub unlisted : (a : Asked) (l : Listed) (why : Refusal) → l ≡ indexedAs (a .list) (a .contacts) → l ≡ RefusedList why → Refused why ≡ plannedAs a
@@ -206,8 +227,17 @@ unfolding plannedAs plannedBy
 unlisted a l why el e = rw (← el, e) refl
 
 pub begun : (list : List ℕ) (l : Listed) (contacts largest : ℕ) (was index fates cards fates₀ cards₀ : List (List ℕ)) → l ≡ indexedAs list (length was) → l ≡ Marked contacts largest → index ≡ indexAfter list (length was)
-    → length index ≡ length was → fates ≡ replicate (length fates₀) noRow → cards ≡ replicate (length cards₀) noCard → Begun list contacts largest index fates cards
-begun list l contacts largest was index fates cards fates₀ cards₀ el e ei li ef ec =
+    → fates ≡ replicate (length fates₀) noRow → cards ≡ replicate (length cards₀) noCard → length index ≡ length was → Begun list contacts largest index fates cards
+begun list l contacts largest was index fates cards fates₀ cards₀ el e ei ef ec li =
     let lf : length fates ≡ length fates₀ = ap length ef ∙ length-replicate (length fates₀) noRow in
     let lc : length cards ≡ length cards₀ = ap length ec ∙ length-replicate (length cards₀) noCard in
     record { listed = rw li (sym el ∙ e); indexed = rw li ei; no-fates = rw lf ef; no-cards = rw lc ec }
+
+pub unlisted-stopped : (text list : List ℕ) (window : ℤ) (download : Bool) (table : List ℕ) (was fates₀ cards₀ index fates cards : List (List ℕ)) (l : Listed) (why : Refusal)
+    → l ≡ indexedAs list (length was) → l ≡ RefusedList why → index ≡ indexAfter list (length was) → fates ≡ replicate (length fates₀) noRow → cards ≡ replicate (length cards₀) noCard
+    → (table′ : List ℕ) (index′ fates′ cards′ : List (List ℕ))
+    → table′ ≡ replicate (length table) 0 → index′ ≡ replicate (length index) Index.noRow → fates′ ≡ replicate (length fates) noRow → cards′ ≡ replicate (length cards) noCard
+    → length index ≡ length was → PlannedTo (asked text list window download table was fates₀ cards₀) (Refused why) table′ index′ fates′ cards′
+unlisted-stopped text list window download table was fates₀ cards₀ index fates cards l why el e ei ef ec table′ index′ fates′ cards′ T I F C li =
+    let a : Asked = asked text list window download table was fates₀ cards₀ in
+    stopped-by a why (unlisted a l why el e) table′ index′ fates′ cards′ (length table) (length index) (length fates) (length cards) T I F C refl li (ap length ef ∙ length-replicate (length fates₀) noRow) (ap length ec ∙ length-replicate (length cards₀) noCard)

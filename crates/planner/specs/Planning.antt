@@ -104,15 +104,18 @@ pub record PlannedTo (a : Asked) (r : Planned) (table : List ℕ) (index fates c
   pub fated : fates ≡ fatesBy a (plannedAs a)
   pub carded : cards ≡ cardsBy a (plannedAs a)
 
--- what is asked where these tables are lent
-abbrev pub asked : List ℕ → List ℕ → ℤ → Bool → List ℕ → List (List ℕ) → List (List ℕ) → List (List ℕ) → Asked
-asked text list window download table index fates cards = record {
+-- what is asked where tables of these lengths are lent
+abbrev pub askedOf : List ℕ → List ℕ → ℤ → Bool → ℕ → ℕ → ℕ → ℕ → Asked
+askedOf text list window download numbers contacts many cards = record {
   text = text;
   list = list;
   window = window;
   download = download;
-  numbers = length table;
-  contacts = length index;
-  records = length fates;
-  confirmations = length cards;
+  numbers = numbers;
+  contacts = contacts;
+  records = many;
+  confirmations = cards;
 }
+
+abbrev pub asked : List ℕ → List ℕ → ℤ → Bool → List ℕ → List (List ℕ) → List (List ℕ) → List (List ℕ) → Asked
+asked text list window download table index fates cards = askedOf text list window download (length table) (length index) (length fates) (length cards)

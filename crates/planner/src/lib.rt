@@ -109,3 +109,175 @@ fn keep_fates(rows: &mut [[u32; 28]], n: usize)
         k += 1;
     }
 }
+
+// The three phases over the rows of n records that were read.
+fn plan_records(
+    text: &[u8],
+    list: &[u8],
+    window: i64,
+    download: bool,
+    table: &[u32],
+    index: &[[u32; 14]],
+    contacts: usize,
+    rows: &mut [[u32; 28]],
+    n: usize,
+    cards: &mut [[u32; 5]],
+) -> Carded
+    requires { ⌜ Indexed (now list) contacts (now index) × ReadInto (now text) (now table) n × (n ≤ length (now rows)) ⌝ }
+    ensures { λ r. ⌜ Recorded (planRead (now (text .entry)) (now (list .entry)) window download (now (table .entry))) n (now (rows .entry)) (now (cards .entry)) r (now (rows .exit)) (now (cards .exit)) ⌝ }
+{
+    entries::fill(text, table, n, rows);
+    fates::settle(text, list, index, contacts, window, download, rows, n);
+    cards::confirm(text, table, index, list, contacts, rows, n, cards)
+}
+
+// A plan that stops leaves nothing.
+fn clear_all(
+    table: &mut [u32],
+    index: &mut [[u32; 14]],
+    rows: &mut [[u32; 28]],
+    cards: &mut [[u32; 5]],
+)
+    ensures { λ _. ⌜ now (table .exit) ≡ replicate (length (now (table .entry))) 0 ⌝ }
+    ensures { λ _. ⌜ now (index .exit) ≡ replicate (length (now (index .entry))) Index.noRow ⌝ }
+    ensures { λ _. ⌜ now (rows .exit) ≡ replicate (length (now (rows .entry))) noRow ⌝ }
+    ensures { λ _. ⌜ now (cards .exit) ≡ replicate (length (now (cards .entry))) noCard ⌝ }
+{
+    reader::clear(table, 0);
+    index::clear(index);
+    clear_fates(rows);
+    clear_cards(cards);
+}
+
+// Of a text that was read into the table: so many records, in so many rows.
+fn plan_read(
+    text: &[u8],
+    list: &[u8],
+    window: i64,
+    download: bool,
+    contacts: usize,
+    largest: u64,
+    records: usize,
+    used: usize,
+    table: &mut [u32],
+    index: &mut [[u32; 14]],
+    fates: &mut [[u32; 28]],
+    cards: &mut [[u32; 5]],
+) -> Planned
+    requires { ⌜ Begun (now list) contacts largest (now index) (now fates) (now cards) × ReadAs (now text) (now table) records used ⌝ }
+    ensures { λ r. ⌜ PlannedTo (asked (now (text .entry)) (now (list .entry)) window download (now (table .entry)) (now (index .entry)) (now (fates .entry)) (now (cards .entry))) r (now (table .exit)) (now (index .exit)) (now (fates .exit)) (now (cards .exit)) ⌝ }
+{
+    if fates.len() < records {
+        clear_all(table, index, fates, cards);
+        return Planned::Refused(Refusal::ShortTable);
+    }
+    let carded = plan_records(
+        text,
+        list,
+        window,
+        download,
+        table,
+        index,
+        contacts,
+        fates,
+        records,
+        cards,
+    );
+    match carded {
+        Carded::Counted {
+            confirmations,
+            already,
+            unmatched,
+        } => {
+            keep_fates(fates, records);
+            Planned::Made {
+                records,
+                rows: used,
+                confirmations,
+                already,
+                unmatched,
+                contacts,
+                largest,
+            }
+        }
+        Carded::Full => {
+            clear_all(table, index, fates, cards);
+            Planned::Refused(Refusal::ShortTable)
+        }
+    }
+}
+
+// Against a list whose index was built.
+fn plan_indexed(
+    text: &[u8],
+    list: &[u8],
+    window: i64,
+    download: bool,
+    contacts: usize,
+    largest: u64,
+    table: &mut [u32],
+    index: &mut [[u32; 14]],
+    fates: &mut [[u32; 28]],
+    cards: &mut [[u32; 5]],
+) -> Planned
+    requires { ⌜ Begun (now list) contacts largest (now index) (now fates) (now cards) ⌝ }
+    ensures { λ r. ⌜ PlannedTo (asked (now (text .entry)) (now (list .entry)) window download (now (table .entry)) (now (index .entry)) (now (fates .entry)) (now (cards .entry))) r (now (table .exit)) (now (index .exit)) (now (fates .exit)) (now (cards .exit)) ⌝ }
+{
+    let reading = reader::read(text, table);
+    match reading {
+        Reading::Read { records, rows } => plan_read(
+            text,
+            list,
+            window,
+            download,
+            contacts,
+            largest,
+            records,
+            rows,
+            table,
+            index,
+            fates,
+            cards,
+        ),
+        Reading::Refused(why) => {
+            clear_all(table, index, fates, cards);
+            Planned::Refused(why)
+        }
+    }
+}
+
+// As `plan` and, for a download, `plan_download`. What the tables held before is of no account.
+pub fn plan(
+    text: &[u8],
+    list: &[u8],
+    window: i64,
+    download: bool,
+    table: &mut [u32],
+    index: &mut [[u32; 14]],
+    fates: &mut [[u32; 28]],
+    cards: &mut [[u32; 5]],
+) -> Planned
+    ensures { λ r. ⌜ PlannedTo (asked (now (text .entry)) (now (list .entry)) window download (now (table .entry)) (now (index .entry)) (now (fates .entry)) (now (cards .entry))) r (now (table .exit)) (now (index .exit)) (now (fates .exit)) (now (cards .exit)) ⌝ }
+{
+    clear_fates(fates);
+    clear_cards(cards);
+    let listed = index::build(list, index);
+    match listed {
+        Listed::Marked { contacts, largest } => plan_indexed(
+            text,
+            list,
+            window,
+            download,
+            contacts,
+            largest,
+            table,
+            index,
+            fates,
+            cards,
+        ),
+        Listed::Refused(why) => {
+            clear_all(table, index, fates, cards);
+            Planned::Refused(why)
+        }
+    }
+}

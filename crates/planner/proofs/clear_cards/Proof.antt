@@ -6,7 +6,6 @@ use Rattle.cards.specs.Carded.{noCard}
 use Rattle.planner.proofs.Clearing.{Clearing, clear-start, clear-on, clear-end}
 use Rattle.planner.proofs.clear_cards.Statement.{statement}
 use Rattle.planner.proofs.clear_cards.Tie as tie
-use Rattle.planner.proofs.no_card.Reads as no-card-reads
 
 abbrev Inv-loop : tie.InvT-loop
 Inv-loop cards₀ i₀ cards i = (i ≤ length cards₀) × (length cards ≡ length cards₀) × Clearing noCard cards₀ cards i

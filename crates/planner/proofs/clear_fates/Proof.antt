@@ -6,7 +6,6 @@ use Rattle.entries.specs.Row.{noRow}
 use Rattle.planner.proofs.Clearing.{Clearing, clear-start, clear-on, clear-end}
 use Rattle.planner.proofs.clear_fates.Statement.{statement}
 use Rattle.planner.proofs.clear_fates.Tie as tie
-use Rattle.planner.proofs.no_fate.Reads as no-fate-reads
 
 abbrev Inv-loop : tie.InvT-loop
 Inv-loop rows₀ i₀ rows i = (i ≤ length rows₀) × (length rows ≡ length rows₀) × Clearing noRow rows₀ rows i

@@ -5,7 +5,6 @@ use borrow.Author.Needs.{needs}
 use Rattle.planner.proofs.KeptLaws.{Keeping, keep-start, keep-on, keep-end}
 use Rattle.planner.proofs.keep_fates.Statement.{statement}
 use Rattle.planner.proofs.keep_fates.Tie as tie
-use Rattle.planner.proofs.kept_row.Reads as kept-row-reads
 
 abbrev Inv-loop : tie.InvT-loop
 Inv-loop rows₀ n k₀ rows k = (n ≤ length rows) × (length rows ≡ length rows₀) × Keeping n rows₀ rows k
