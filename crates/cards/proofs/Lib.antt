@@ -6,3 +6,4 @@ pub mod RowLaws
 pub mod ChainLaws
 pub mod DoneLaws
 pub mod EndLaws
+pub mod Determined
