@@ -23,4 +23,4 @@ record:
 
 # what importing FILE would do
 preview:
-	@echo 'preview: comes with the planner, which is not there yet' >&2; exit 2
+	@host/preview.sh "$(FILE)"

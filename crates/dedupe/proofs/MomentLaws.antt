@@ -59,7 +59,7 @@ digit-raised d e =
     let h : d ≤ 0x39 = leb-true d 0x39 (both-right (leb 0x30 d) (leb d 0x39) e) in
     raised-small d (lt-leb 0x61 d (omega arith))
 
-all-raised : (ds : List ℕ) → allDigits (capitals ds) ≡ allDigits ds
+pub all-raised : (ds : List ℕ) → allDigits (capitals ds) ≡ allDigits ds
 all-raised [] = refl
 all-raised (d ∷ ds) = rw (within-raised d, all-raised ds) refl
 

@@ -27,8 +27,8 @@ use Rattle.tables.proofs.Tested.{both-left, both-right, all}
 use Rattle.normalize.proofs.TrimLaws.{trim-capitals}
 use Rattle.times.specs.Window.{isWithin}
 use Rattle.times.specs.declared.Moment.{Moment}
-use Rattle.dedupe.specs.Keys.{inLog, inFile, naturalKey, duplicate}
-use Rattle.dedupe.specs.Views.{cased, view, viewed, keysInLog, keysInFile, keysNatural, keysDuplicate}
+use Rattle.dedupe.specs.Keys.{inLog, inFile, naturalKey, unmatched, duplicate}
+use Rattle.dedupe.specs.Views.{cased, view, viewed, keysInLog, keysInFile, keysNatural, keysUnmatched, keysDuplicate}
 use Rattle.dedupe.specs.declared.Key.{Key}
 use Rattle.dedupe.specs.declared.Test.{Test}
 
@@ -89,7 +89,7 @@ module _ (t r : Bool) where
       by true = refl
       by false = refl
 
-  view-at : (text : List ℕ) (k a n : ℕ) → viewed t r text (place k a n) (take (nameOf (place k a n) .len) (nameOf (place k a n) .bytes)) ≡ view t r (bytes text (place k a n))
+  pub view-at : (text : List ℕ) (k a n : ℕ) → viewed t r text (place k a n) (take (nameOf (place k a n) .len) (nameOf (place k a n) .bytes)) ≡ view t r (bytes text (place k a n))
   unfolding nameOf value part
   view-at text zero a n = rw either-false refl
   view-at text (suc zero) a n = rw either-false refl
@@ -178,6 +178,30 @@ module _ (a : List ℕ) (k : Key) (b : List ℕ) (o : Key) where
           let e : c ≡ same (view true true (bytes a (k .call))) (view true true (bytes b (o .call))) = rw et at ec in
           let d : m ≡ same (view true false (bytes a (k .mode))) (view true false (bytes b (o .mode))) = rw eu at em in
           let z : r ≡ same (view true false (bytes a (k .band))) (view true false (bytes b (o .band))) = rw ev at eb in
+          rw (← e, h, ← d, g) z
+
+  module _ (t : Test) (c : Bool) (et : t ≡ record { first = true; second = true; raised = true }) (ec : c ≡ same (view (t .first) (t .raised) (bytes a (k .call))) (view (t .second) (t .raised) (bytes b (o .call)))) where
+    pub unmatched-call : c ≡ false → false ≡ keysUnmatched a k b o
+    unfolding keysUnmatched unmatched sameRaised cased
+    unmatched-call h =
+        let e : c ≡ same (view true true (bytes a (k .call))) (view true true (bytes b (o .call))) = rw et at ec in
+        rw (← e, h) refl
+
+    module _ (u : Test) (m : Bool) (h : c ≡ true) (eu : u ≡ record { first = false; second = false; raised = false }) (em : m ≡ same (view (u .first) (u .raised) (bytes a (k .band))) (view (u .second) (u .raised) (bytes b (o .band)))) where
+      pub unmatched-band : m ≡ false → false ≡ keysUnmatched a k b o
+      unfolding keysUnmatched unmatched sameRaised cased
+      unmatched-band g =
+          let e : c ≡ same (view true true (bytes a (k .call))) (view true true (bytes b (o .call))) = rw et at ec in
+          let d : m ≡ same (view false false (bytes a (k .band))) (view false false (bytes b (o .band))) = rw eu at em in
+          rw (← e, h, ← d, g) refl
+
+      pub unmatched-mode : (v : Test) (r : Bool) → m ≡ true → v ≡ record { first = false; second = false; raised = false } → r ≡ same (view (v .first) (v .raised) (bytes a (k .mode))) (view (v .second) (v .raised) (bytes b (o .mode)))
+          → r ≡ keysUnmatched a k b o
+      unfolding keysUnmatched unmatched sameRaised cased
+      unmatched-mode v r g ev eb =
+          let e : c ≡ same (view true true (bytes a (k .call))) (view true true (bytes b (o .call))) = rw et at ec in
+          let d : m ≡ same (view false false (bytes a (k .band))) (view false false (bytes b (o .band))) = rw eu at em in
+          let z : r ≡ same (view false false (bytes a (k .mode))) (view false false (bytes b (o .mode))) = rw ev at eb in
           rw (← e, h, ← d, g) z
 
   module _ (t : Test) (c : Bool) (et : t ≡ record { first = false; second = true; raised = true }) (ec : c ≡ same (view (t .first) (t .raised) (bytes a (k .call))) (view (t .second) (t .raised) (bytes b (o .call)))) where

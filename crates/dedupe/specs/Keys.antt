@@ -1,4 +1,4 @@
--- When two contacts have the same call, mode and band: three tests, which differ in what they trim. The case of a call's letters never
+-- When two contacts have the same call, mode and band: four tests, which differ in what they trim. The case of a call's letters never
 -- counts, that of a mode and a band always does.
 use Prim.Native.Nat.{ℕ}
 use mathlib.Core.Bool.{Bool}
@@ -22,6 +22,10 @@ module _ (call mode band : List ℕ) (call' mode' band' : List ℕ) where
   -- rigflow's natural key: the second contact's call is trimmed, and nothing else
   unfoldable pub naturalKey : Bool
   naturalKey = both (sameRaised call (trimmed call')) (both (same mode mode') (same band band'))
+
+  -- confirmations that match no contact: both calls are trimmed, and nothing else
+  unfoldable pub unmatched : Bool
+  unmatched = both (sameRaised (trimmed call) (trimmed call')) (both (same band band') (same mode mode'))
 
   -- a duplicate has the same natural key, within the window
   unfoldable pub duplicate : Moment → Moment → ℤ → Bool

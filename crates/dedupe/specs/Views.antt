@@ -10,7 +10,7 @@ use Rattle.letters.specs.Capitals.{capitals}
 use Rattle.tables.specs.Place.{inText, part, bytes}
 use Rattle.times.specs.declared.Moment.{Moment}
 use Rattle.tables.specs.declared.Place.{Place}
-use Rattle.dedupe.specs.Keys.{inLog, inFile, naturalKey, duplicate}
+use Rattle.dedupe.specs.Keys.{inLog, inFile, naturalKey, unmatched, duplicate}
 use Rattle.dedupe.specs.declared.Key.{Key}
 
 unfoldable pub cased : Bool → List ℕ → List ℕ
@@ -35,6 +35,10 @@ module _ (a : List ℕ) (k : Key) (b : List ℕ) (o : Key) where
   unfoldable pub keysNatural : Bool
   keysNatural =
       naturalKey (bytes a (k .call)) (bytes a (k .mode)) (bytes a (k .band)) (bytes b (o .call)) (bytes b (o .mode)) (bytes b (o .band))
+
+  unfoldable pub keysUnmatched : Bool
+  keysUnmatched =
+      unmatched (bytes a (k .call)) (bytes a (k .mode)) (bytes a (k .band)) (bytes b (o .call)) (bytes b (o .mode)) (bytes b (o .band))
 
   unfoldable pub keysDuplicate : Moment → Moment → ℤ → Bool
   keysDuplicate at at' window =

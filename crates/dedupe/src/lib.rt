@@ -9,7 +9,7 @@ ghost use Rattle.letters.specs.Capitals.{raised};
 ghost use Rattle.letters.specs.Same.{same};
 ghost use Rattle.tables.specs.Place.{inText, part, bytes};
 ghost use Rattle.times.specs.Moments.{momentOf};
-ghost use Rattle.dedupe.specs.Views.{cased, view, viewed, keysInLog, keysInFile, keysNatural, keysDuplicate};
+ghost use Rattle.dedupe.specs.Views.{cased, view, viewed, keysInLog, keysInFile, keysNatural, keysUnmatched, keysDuplicate};
 use tables::Place;
 use tables::places;
 use times::Moment;
@@ -36,7 +36,7 @@ fn case_of(b: u8, raises: bool) -> u8
 }
 
 // Two texts, each as it stands or in capitals, are the same.
-fn same_cased(a: &[u8], a_raised: bool, b: &[u8], b_raised: bool) -> bool
+pub fn same_cased(a: &[u8], a_raised: bool, b: &[u8], b_raised: bool) -> bool
     ensures { λ r. ⌜ r ≡ same (cased «a_raised» (now (a .entry))) (cased «b_raised» (now (b .entry))) ⌝ }
 {
     if a.len() != b.len() {
@@ -53,7 +53,7 @@ fn same_cased(a: &[u8], a_raised: bool, b: &[u8], b_raised: bool) -> bool
 }
 
 // The part of the text at which a place is; the name where it is not in the text.
-fn shown<'a>(text: &'a [u8], name: &'a [u8], p: Place) -> &'a [u8]
+pub fn shown<'a>(text: &'a [u8], name: &'a [u8], p: Place) -> &'a [u8]
     ensures { λ r. ⌜ now r ≡ pick (inText p) (part (now (text .entry)) p) (now (name .entry)) ⌝ }
 {
     if places::in_text(p) {
@@ -147,6 +147,19 @@ pub fn same_natural_key(a: &[u8], k: Key, b: &[u8], o: Key) -> bool
     if alike(a, k.call, b, o.call, looked_at(false, true, true)) {
         if alike(a, k.mode, b, o.mode, looked_at(false, false, false)) {
             return alike(a, k.band, b, o.band, looked_at(false, false, false));
+        }
+        return false;
+    }
+    false
+}
+
+// What two confirmations that match no contact confirm is the same.
+pub fn same_unmatched(a: &[u8], k: Key, b: &[u8], o: Key) -> bool
+    ensures { λ r. ⌜ r ≡ keysUnmatched (now (a .entry)) k (now (b .entry)) o ⌝ }
+{
+    if alike(a, k.call, b, o.call, looked_at(true, true, true)) {
+        if alike(a, k.band, b, o.band, looked_at(false, false, false)) {
+            return alike(a, k.mode, b, o.mode, looked_at(false, false, false));
         }
         return false;
     }

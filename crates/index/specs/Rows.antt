@@ -37,7 +37,7 @@ unfoldable pub momentFrom : ℕ → ℕ → Moment
 momentFrom zero seconds = Never
 momentFrom (suc _) seconds = At seconds
 
--- a number that contacts of one key share: bytes mixed into it one by one
+-- a number that contacts of one key share: bytes mixed into it one by one, in capitals
 unfoldable pub mix : ℕ → ℕ → ℕ
 mix h b = (h * 2654435761 + b) % 4294967296
 
@@ -46,7 +46,7 @@ mixed h [] = h
 mixed h (b ∷ bs) = mixed (mix h b) bs
 
 unfoldable pub codeOf : List ℕ → List ℕ → List ℕ → ℕ
-codeOf call mode band = mixed (mixed (mixed 0 (capitals call)) mode) band
+codeOf call mode band = mixed (mixed (mixed 0 (capitals call)) (capitals mode)) (capitals band)
 
 -- the record with these parts
 unfoldable pub rowOf : ℕ → ℕ → ℕ → ℕ → ℕ → ℕ → ℕ → ℕ → Moment → Row

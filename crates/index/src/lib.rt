@@ -24,18 +24,6 @@ fn stir(h: u32, b: u8) -> u32
     ((h as u64 * SPREAD + b as u64) % HALF) as u32
 }
 
-fn stir_in(h: u32, s: &[u8]) -> u32
-    ensures { λ r. ⌜ r ≡ mixed h (now (s .entry)) ⌝ }
-{
-    let mut x = h;
-    let mut i = 0;
-    while i < s.len() {
-        x = stir(x, s[i]);
-        i += 1;
-    }
-    x
-}
-
 fn stir_in_capitals(h: u32, s: &[u8]) -> u32
     ensures { λ r. ⌜ r ≡ mixed h (capitals (now (s .entry))) ⌝ }
 {
@@ -48,26 +36,26 @@ fn stir_in_capitals(h: u32, s: &[u8]) -> u32
     x
 }
 
-// The number that contacts of one key share.
+// The number that contacts of one key share. Capitals throughout: a mode that stands in capitals is read as it is.
 pub fn code_of(call: &[u8], mode: &[u8], band: &[u8]) -> u32
     ensures { λ r. ⌜ r ≡ codeOf (now (call .entry)) (now (mode .entry)) (now (band .entry)) ⌝ }
 {
-    stir_in(stir_in(stir_in_capitals(0, call), mode), band)
+    stir_in_capitals(stir_in_capitals(stir_in_capitals(0, call), mode), band)
 }
 
-fn low_half(n: u64) -> u32
+pub fn low_half(n: u64) -> u32
     ensures { λ r. ⌜ r ≡ low n ⌝ }
 {
     (n % HALF) as u32
 }
 
-fn high_half(n: u64) -> u32
+pub fn high_half(n: u64) -> u32
     ensures { λ r. ⌜ r ≡ high n ⌝ }
 {
     (n / HALF) as u32
 }
 
-fn has_moment(m: Moment) -> u32
+pub fn has_moment(m: Moment) -> u32
     ensures { λ r. ⌜ r ≡ hasMoment m ⌝ }
 {
     match m {
@@ -76,7 +64,7 @@ fn has_moment(m: Moment) -> u32
     }
 }
 
-fn seconds_in(m: Moment) -> u64
+pub fn seconds_in(m: Moment) -> u64
     ensures { λ r. ⌜ r ≡ secondsIn m ⌝ }
 {
     match m {
@@ -169,7 +157,7 @@ fn no_row() -> [u32; 14]
     [0u32; 14]
 }
 
-fn clear(rows: &mut [[u32; 14]])
+pub fn clear(rows: &mut [[u32; 14]])
     ensures { λ _. ⌜ now (rows .exit) ≡ replicate (length (now (rows .entry))) noRow ⌝ }
 {
     let mut i = 0;

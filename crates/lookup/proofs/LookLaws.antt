@@ -1,5 +1,6 @@
 -- A list looked up, contact by contact. Assumes nothing.
 use mathlib.Core.Path.{_≡_, refl, sym, ap, _∙_}
+use mathlib.Core.Bool.{false}
 use mathlib.Core.List.{List, [], _∷_, _++_, map}
 use Prim.Native.Nat.{ℕ, zero, suc, _+_, _-_, _≤_, _<_}
 use native.Mathlib.Nat.{sub-zero, zero-add}
@@ -22,6 +23,7 @@ use Rattle.index.specs.Rows.{Row}
 use Rattle.index.specs.Index.{indexedAs, indexAfter, Checked}
 use Rattle.index.proofs.RowLaws.{sets-all}
 use Rattle.index.proofs.BuildLaws.{drop-replicate}
+use Rattle.dedupe.specs.Views.{cased}
 use Rattle.search.specs.Search.{momentIn, firstMatch, Indexed}
 use Rattle.lookup.specs.Lookup.{matchFor, matchesFrom, searchedBy, searchedAs, foundBy, foundAfter}
 use Rattle.lookup.specs.Parts.{LookedUp}
@@ -29,8 +31,9 @@ use Rattle.lookup.specs.Parts.{LookedUp}
 -- ---- one contact
 pub match-by-is : (s other : List ℕ) (call date time band mode limit : ℕ) (c m b d t : List ℕ) (moment : Moment) (r : ℕ)
     → d ≡ textAt other date → t ≡ textAt other time → moment ≡ momentOf d t → c ≡ textAt other call → m ≡ textAt other mode → b ≡ textAt other band
-    → r ≡ firstMatch c m b moment limit (contactsOf s)
+    → r ≡ firstMatch c (cased false m) (cased false b) moment limit (contactsOf s)
     → r ≡ firstMatch (textAt other call) (textAt other mode) (textAt other band) (momentOf (textAt other date) (textAt other time)) limit (contactsOf s)
+unfolding cased
 match-by-is s other call date time band mode limit c m b d t moment r ed et en ec em eb er = rw (← ec, ← em, ← eb, ← ed, ← et, ← en) er
 
 pub match-at-is : (s other : List ℕ) (at date time band mode limit r : ℕ) → date ≡ after other (at + 11) → time ≡ after other date → band ≡ after other time → mode ≡ after other band

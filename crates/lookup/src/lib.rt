@@ -39,7 +39,9 @@ fn match_by(
         n,
         contacts::text_at(other, call),
         contacts::text_at(other, mode),
+        false,
         contacts::text_at(other, band),
+        false,
         moment,
         limit,
     )

@@ -12,7 +12,7 @@ use lib.ListN.{length, getD, take, drop, take-append-drop, length-drop, length-r
 use lib.Seq.{take-length, drop-at, drop-drop}
 use borrow.Author.Tests.{ne-eqb, lt-leb, leb-true}
 use Rattle.text.specs.Pick.{pick, both, within}
-use Rattle.text.specs.Space.{space1, space2, space3, space80, spaceLen, spaceBack, width, trimStart, trimEnd, trimmed}
+use Rattle.text.specs.Space.{space1, space2, space3, space80, spaceLen, spaceBack, width, trimStart, trimEnd, trimmed, blank}
 use Rattle.text.specs.Walk.{onward, walk, lead}
 use Rattle.text.proofs.Walks.{stops, lead-le}
 use Rattle.text.proofs.SpaceLaws.{front-fits, back-fits}
@@ -240,3 +240,7 @@ trim-capitals xs =
       length-map (drop (lead spaceLen xs) xs) raised,
     )
     (take-capitals (length (drop (lead spaceLen xs) xs) - lead spaceBack (reverse (drop (lead spaceLen xs) xs))) (drop (lead spaceLen xs) xs))
+
+pub blank-capitals : (xs : List ℕ) → blank (capitals xs) ≡ blank xs
+unfolding blank trimStart
+blank-capitals xs = rw (lead-capitals spaceLen front-raised xs, length-map xs raised) refl

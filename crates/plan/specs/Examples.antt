@@ -19,10 +19,11 @@ use Rattle.decimal.specs.Decimal.{digitsAfter, digitsOf}
 use Rattle.dedupe.specs.Keys.{inLog, inFile}
 use Rattle.contacts.specs.Contacts.{Contact, contact, largest}
 use Rattle.chain.specs.Chain.{over}
+use Rattle.search.specs.Search.{firstFrom}
 use Rattle.confirmations.specs.Confirmations.{unanswered}
 use Rattle.confirmations.specs.declared.Answer.{Answer}
 use Rattle.plan.specs.Entry.{Entry}
-use Rattle.plan.specs.Fates.{matches, firstFrom, found, fateOf, repeats, fateAt, fatesTo, count}
+use Rattle.plan.specs.Fates.{matches, found, fateOf, repeats, fateAt, fatesTo, count}
 use Rattle.plan.specs.Confirmed.{hasBit, sameUnmatched, alike, counts, countedAt, newAt, oldAt, newTo, alreadyTo, unmatchedTo}
 use Rattle.plan.specs.Plan.{Plan, planFrom, planned, countsOf, fatesOf, totalOf}
 
@@ -51,6 +52,11 @@ both-are-imported = refl
 download-ignores : fatesOf (pos 1800) true [] three ≡ 7 ∷ 7 ∷ 4 ∷ []
 unfolding fatesTo fateAt fateOf found firstFrom
 download-ignores = refl
+
+-- what is unusable stays so, whatever it bears
+unusable-first : fatesOf (pos 1800) false [] (record { call = []; mode = []; band = []; moment = Never; reason = 1; answers = record { present = true; service = 1; date = stands 10 8 } ∷ [] } ∷ []) ≡ 4 ∷ []
+unfolding fatesTo fateAt fateOf repeats found firstFrom over
+unusable-first = refl
 
 -- only an importable record makes a later one a duplicate: the third is within the window of the second, which is none
 abbrev row : List Entry

@@ -12,6 +12,7 @@ use Rattle.times.specs.Window.{isWithin}
 use Rattle.dedupe.specs.Keys.{inLog, inFile}
 use Rattle.contacts.specs.Contacts.{Contact, callOf, dateOf, timeOf, bandOf, modeOf}
 use Rattle.chain.specs.Chain.{any, col}
+use Rattle.search.specs.Search.{firstFrom}
 use Rattle.confirmations.specs.declared.Answer.{Answer}
 use Rattle.plan.specs.Entry.{Entry, noEntry}
 
@@ -20,11 +21,7 @@ unfoldable pub matches : ℤ → Entry → Contact → Bool
 matches window e c =
     both (inLog (e .call) (e .mode) (e .band) (callOf c) (modeOf c) (bandOf c)) (isWithin (e .moment) (momentOf (dateOf c) (timeOf c)) window)
 
--- the first match by its number in the list, which is in the order of ids, those before being k; 0 where there is none
-unfoldable pub firstFrom : (Contact → Bool) → ℕ → List Contact → ℕ
-firstFrom passes k [] = 0
-firstFrom passes k (c ∷ cs) = pick (passes c) (suc k) (firstFrom passes (suc k) cs)
-
+-- the first match, by its number in the list, which is in the order of ids; 0 where there is none
 unfoldable pub found : ℤ → List Contact → Entry → ℕ
 found window contacts e = firstFrom (matches window e) 0 contacts
 
@@ -73,7 +70,7 @@ unfoldable pub count : ℕ → List ℕ → ℕ
 count f [] = 0
 count f (x ∷ xs) = pick (eqb x f) (suc (count f xs)) (count f xs)
 
--- ---- the fates as a lent table keeps them: sixteen numbers a record, the first of which is its fate; of the first k records
+-- ---- the fates as a lent table keeps them: a row a record, whose first number is its fate; of the first k records
 unfoldable pub fatesIn : List (List ℕ) → ℕ → List ℕ
 fatesIn rows zero = []
 fatesIn rows (suc k) = fatesIn rows k ++ (col rows k 0 ∷ [])

@@ -44,10 +44,11 @@ use Rattle.times.specs.Window.{apart, reaches, isWithin, limitOf}
 use Rattle.dedupe.specs.Keys.{inLog, inFile, naturalKey, duplicate}
 use Rattle.contacts.specs.Contacts.{plain, isDate, isTime, soundHead, soundTexts, sound, soundFrom, bytesOf, bodyText, entryText, entriesText, listText, largest}
 use Rattle.chain.specs.Chain.{over}
+use Rattle.search.specs.Search.{firstFrom}
 use Rattle.confirmations.specs.Confirmations.{says, dateAt, answered, attributed, stood, answersOf}
 use Rattle.usable.specs.Reasons.{reasonBy, reasonOf, reasonIn}
 use Rattle.plan.specs.Entry.{entryWith, entryOf, entriesOf}
-use Rattle.plan.specs.Fates.{matches, firstFrom, found, fateOf, repeats, fateAt, fatesTo, count}
+use Rattle.plan.specs.Fates.{matches, found, fateOf, repeats, fateAt, fatesTo, count}
 use Rattle.plan.specs.Confirmed.{hasBit, sameUnmatched, alike, counts, countedAt, newAt, oldAt, newTo, alreadyTo, unmatchedTo}
 use Rattle.plan.specs.Plan.{planFrom, planned, planOf, countsOf}
 

@@ -7,7 +7,7 @@ ghost use Rattle.plan.specs.Fates.{count, fatesIn};
 ghost use Rattle.plan.specs.Plan.{totalOf, countsWith};
 use summary::Counts;
 
-fn fate_in(row: [u32; 16]) -> u32
+fn fate_in(row: [u32; 28]) -> u32
     ensures { λ r. ⌜ r ≡ getD row 0 0 ⌝ }
 {
     row[0]
@@ -21,7 +21,7 @@ fn one_if(counts: bool) -> u64
 }
 
 // How many of the first n records have the fate.
-pub fn count_fate(rows: &[[u32; 16]], n: usize, fate: u32) -> u64
+pub fn count_fate(rows: &[[u32; 28]], n: usize, fate: u32) -> u64
     requires { ⌜ n ≤ length (now rows) ⌝ }
     ensures { λ r. ⌜ r ≡ count fate (fatesIn (now (rows .entry)) n) ⌝ }
     ensures { λ r. ⌜ r ≤ n ⌝ }
@@ -35,7 +35,7 @@ pub fn count_fate(rows: &[[u32; 16]], n: usize, fate: u32) -> u64
     found
 }
 
-fn total_of(rows: &[[u32; 16]], n: usize) -> u64
+fn total_of(rows: &[[u32; 28]], n: usize) -> u64
     requires { ⌜ (n ≤ length (now rows)) × (n ≤ 65535) ⌝ }
     ensures { λ r. ⌜ r ≡ totalOf (fatesIn (now (rows .entry)) n) ⌝ }
 {
@@ -48,7 +48,7 @@ fn total_of(rows: &[[u32; 16]], n: usize) -> u64
 
 // What the first n records of the table count, with the confirmations that they make.
 pub fn counts_of(
-    rows: &[[u32; 16]],
+    rows: &[[u32; 28]],
     n: usize,
     confirmations: u64,
     already: u64,

@@ -184,7 +184,7 @@ fn read_tags(text: &[u8], table: &mut [u32]) -> Reading
 }
 
 // Zero from `from` on.
-fn clear(table: &mut [u32], from: usize)
+pub fn clear(table: &mut [u32], from: usize)
     requires { ⌜ from ≤ length (now table) ⌝ }
     ensures { λ _. ⌜ now (table .exit) ≡ take from (now (table .entry)) ++ replicate (length (now (table .entry)) - from) 0 ⌝ }
 {

@@ -13,6 +13,7 @@ use Rattle.text.specs.Pick.{pick, both}
 use Rattle.text.proofs.BoolLaws.{cases, never, both-left, both-right}
 use Rattle.letters.specs.Capitals.{capitals}
 use Rattle.letters.specs.Same.{same, sameRaised}
+use Rattle.letters.proofs.CapitalLaws.{capitals-twice}
 use Rattle.letters.proofs.SameLaws.{same-true, same-raised-true}
 use Rattle.times.specs.Moments.{momentOf}
 use Rattle.times.specs.Window.{apart, reaches, isWithin, limitOf}
@@ -27,6 +28,7 @@ use Rattle.index.specs.Rows.{Row, low, high, joined, hasMoment, secondsIn, mome
 use Rattle.index.specs.Index.{freeOf, bucketOf}
 use Rattle.index.proofs.ChainLaws.{hdOf, nxOf}
 use Rattle.dedupe.specs.Keys.{inLog}
+use Rattle.dedupe.specs.Views.{cased}
 use Rattle.search.specs.Search.{near, momentIn, matches, firstFrom, firstMatch, Indexed}
 use Rattle.search.specs.Steps.{rowMoment, rowMatches}
 use Rattle.search.proofs.ReadyLaws.{placeFrom, contact-there, contacts-length, Ready, ready}
@@ -70,6 +72,16 @@ match-code call mode band moment limit c e =
     let b = same-true band (bandOf c) (both-right (same mode (modeOf c)) _ r) in
     rw (← a, ← m, ← b) refl
 
+-- ---- the code is of capitals, so it is the same for a text in capitals
+cased-capitals : (raised : Bool) (xs : List ℕ) → capitals (cased raised xs) ≡ capitals xs
+unfolding cased
+cased-capitals true xs = capitals-twice xs
+cased-capitals false xs = refl
+
+code-cased : (call mode band : List ℕ) (mr br : Bool) → codeOf call (cased mr mode) (cased br band) ≡ codeOf call mode band
+unfolding codeOf
+code-cased call mode band mr br = rw (cased-capitals mr mode, cased-capitals br band) refl
+
 -- ---- the first of the list is the first by number
 or-none : (a : ℕ) → orElse a 0 ≡ a
 or-none zero = refl
@@ -98,14 +110,20 @@ first-is P p d cs h =
     rw z at (first-across P p d cs 0 (λ i l. let y : 0 + i ≡ i = omega arith in rw y (h i l)))
 
 -- ---- the walk
-module _ (s : List ℕ) (rows : List Row) (call mode band : List ℕ) (moment : Moment) (limit : ℕ) where
+module _ (s : List ℕ) (rows : List Row) (call bare : List ℕ) (mr : Bool) (plain : List ℕ) (br : Bool) (moment : Moment) (limit : ℕ) where
+  abbrev mode : List ℕ
+  mode = cased mr bare
+
+  abbrev band : List ℕ
+  band = cased br plain
+
   abbrev pub Hit : ℕ → Bool
   Hit i = rowMatches s (getD rows i []) call mode band moment limit
 
   unfoldable pub Walking : ℕ → ℕ → ℕ → ℕ → Type 0
   Walking n code at best = First Hit (bucketOf rows n) (code % n) n at best
 
-  module _ (n code : ℕ) (I : Indexed s n rows) (ec : code ≡ codeOf call mode band) (hn : n ≡ 0 → ⊥) where
+  module _ (n code : ℕ) (I : Indexed s n rows) (ec : code ≡ codeOf call bare plain) (hn : n ≡ 0 → ⊥) where
     R : Ready s n rows
     R = ready s n rows I
 
@@ -117,6 +135,7 @@ module _ (s : List ℕ) (rows : List Row) (call mode band : List ℕ) (moment : 
     hit-code j h e =
         row-code s (getD rows j []) (placeFrom s j 5) (R .free j h)
         ∙ match-code call mode band moment limit (contactAt s (placeFrom s j 5)) (sym (row-matches s (getD rows j []) (placeFrom s j 5) (R .free j h) call mode band moment limit) ∙ e)
+        ∙ code-cased call bare plain mr br
         ∙ sym ec
 
     sub : (j : ℕ) → j < n → Hit j ≡ true → bucketOf rows n j ≡ code % n
@@ -168,31 +187,31 @@ module _ (s : List ℕ) (rows : List Row) (call mode band : List ℕ) (moment : 
   find-none n I e = let z : countOf s ≡ 0 = sym (ready s n rows I .count) ∙ e in rw z refl
 
 -- ---- the tests of one record
-module _ (s : List ℕ) (row : Row) (call mode band : List ℕ) where
+module _ (s : List ℕ) (row : Row) (call bare : List ℕ) (mr : Bool) (plain : List ℕ) (br : Bool) where
   abbrev pub Key : Bool
-  Key = inLog call mode band (textAt s (getD row 6 0)) (textAt s (getD row 10 0)) (textAt s (getD row 9 0))
+  Key = inLog call (cased mr bare) (cased br plain) (textAt s (getD row 6 0)) (textAt s (getD row 10 0)) (textAt s (getD row 9 0))
 
   module _ (p : ℕ) (c : List ℕ) (t : Bool) (ep : p ≡ getD row 6 0) (ec : c ≡ textAt s p) (et : t ≡ sameRaised call c) where
     pub key-call : not t ≡ true → false ≡ Key
     unfolding inLog
     key-call n = let u : sameRaised call (textAt s (getD row 6 0)) ≡ false = rw (← ep, ← ec, ← et) (not-true t n) in rw u refl
 
-    module _ (nt : not t ≡ false) (q : ℕ) (m : List ℕ) (u : Bool) (eq : q ≡ getD row 10 0) (em : m ≡ textAt s q) (eu : u ≡ same mode m) where
+    module _ (nt : not t ≡ false) (q : ℕ) (m : List ℕ) (u : Bool) (eq : q ≡ getD row 10 0) (em : m ≡ textAt s q) (eu : u ≡ same (cased mr bare) (cased false m)) where
       pub key-mode : not u ≡ true → false ≡ Key
-      unfolding inLog
+      unfolding inLog cased
       key-mode n =
           let a : sameRaised call (textAt s (getD row 6 0)) ≡ true = rw (← ep, ← ec, ← et) (not-false t nt) in
-          let b : same mode (textAt s (getD row 10 0)) ≡ false = rw (← eq, ← em, ← eu) (not-true u n) in rw (a, b) refl
+          let b : same (cased mr bare) (textAt s (getD row 10 0)) ≡ false = rw (← eq, ← em, ← eu) (not-true u n) in rw (a, b) refl
 
-      pub key-band : not u ≡ false → (r : ℕ) (b : List ℕ) (v : Bool) → r ≡ getD row 9 0 → b ≡ textAt s r → v ≡ same band b → v ≡ Key
-      unfolding inLog
+      pub key-band : not u ≡ false → (r : ℕ) (b : List ℕ) (v : Bool) → r ≡ getD row 9 0 → b ≡ textAt s r → v ≡ same (cased br plain) (cased false b) → v ≡ Key
+      unfolding inLog cased
       key-band n r b v er eb ev =
           let a : sameRaised call (textAt s (getD row 6 0)) ≡ true = rw (← ep, ← ec, ← et) (not-false t nt) in
-          let d : same mode (textAt s (getD row 10 0)) ≡ true = rw (← eq, ← em, ← eu) (not-false u n) in rw (a, d, ← er, ← eb) ev
+          let d : same (cased mr bare) (textAt s (getD row 10 0)) ≡ true = rw (← eq, ← em, ← eu) (not-false u n) in rw (a, d, ← er, ← eb) ev
 
   module _ (moment : Moment) (limit code : ℕ) where
     abbrev pub Test : Bool
-    Test = both (eqb (getD row 2 0) code) (rowMatches s row call mode band moment limit)
+    Test = both (eqb (getD row 2 0) code) (rowMatches s row call (cased mr bare) (cased br plain) moment limit)
 
     pub match-other : (p : ℕ) → p ≡ getD row 2 0 → (p ≡ code → ⊥) → false ≡ Test
     match-other p e n = rw (ne-eqb (getD row 2 0) code (λ z. n (e ∙ z))) refl

@@ -9,13 +9,15 @@ ghost use Rattle.contacts.specs.Lists.{textAt, contactsOf};
 ghost use Rattle.times.specs.Window.{apart};
 ghost use Rattle.index.specs.Rows.{joined, momentFrom};
 ghost use Rattle.dedupe.specs.Keys.{inLog};
+ghost use Rattle.dedupe.specs.Views.{cased};
 ghost use Rattle.search.specs.Search.{near, firstMatch, Indexed};
 ghost use Rattle.search.specs.Steps.{rowMoment, rowMatches};
 use times::Moment;
 
 const HALF: u64 = 4_294_967_296;
 
-fn moment_from(there: u32, low: u32, high: u32) -> Moment
+// The moment that a record keeps as numbers.
+pub fn moment_from(there: u32, low: u32, high: u32) -> Moment
     ensures { λ r. ⌜ r ≡ momentFrom there (joined low high) ⌝ }
 {
     if there == 0 {
@@ -31,7 +33,7 @@ fn distance(a: u64, b: u64) -> u64
 }
 
 // Both are moments, and nearer than the limit.
-fn is_near(a: Moment, b: Moment, limit: u64) -> bool
+pub fn is_near(a: Moment, b: Moment, limit: u64) -> bool
     ensures { λ r. ⌜ r ≡ near a b limit ⌝ }
 {
     match a {
@@ -49,17 +51,35 @@ fn moment_in(row: [u32; 14]) -> Moment
     moment_from(row[11], row[12], row[13])
 }
 
-// The contact of a record has this call, letters' case aside, and just this mode and band.
-fn is_key(list: &[u8], row: [u32; 14], call: &[u8], mode: &[u8], band: &[u8]) -> bool
-    ensures { λ r. ⌜ r ≡ inLog (now (call .entry)) (now (mode .entry)) (now (band .entry)) (textAt (now (list .entry)) (getD row 6 0)) (textAt (now (list .entry)) (getD row 10 0)) (textAt (now (list .entry)) (getD row 9 0)) ⌝ }
+// The contact of a record has this call, letters' case aside, and just this mode and band, each as it stands or in capitals.
+fn is_key(
+    list: &[u8],
+    row: [u32; 14],
+    call: &[u8],
+    mode: &[u8],
+    mode_raised: bool,
+    band: &[u8],
+    band_raised: bool,
+) -> bool
+    ensures { λ r. ⌜ r ≡ inLog (now (call .entry)) (cased «mode_raised» (now (mode .entry))) (cased «band_raised» (now (band .entry))) (textAt (now (list .entry)) (getD row 6 0)) (textAt (now (list .entry)) (getD row 10 0)) (textAt (now (list .entry)) (getD row 9 0)) ⌝ }
 {
     if !letters::same_raised(call, contacts::text_at(list, index::number_in(row, 6))) {
         return false;
     }
-    if !letters::same(mode, contacts::text_at(list, index::number_in(row, 10))) {
+    if !dedupe::same_cased(
+        mode,
+        mode_raised,
+        contacts::text_at(list, index::number_in(row, 10)),
+        false,
+    ) {
         return false;
     }
-    letters::same(band, contacts::text_at(list, index::number_in(row, 9)))
+    dedupe::same_cased(
+        band,
+        band_raised,
+        contacts::text_at(list, index::number_in(row, 9)),
+        false,
+    )
 }
 
 // The same code, then the times, then the texts.
@@ -69,11 +89,13 @@ fn is_match(
     code: usize,
     call: &[u8],
     mode: &[u8],
+    mode_raised: bool,
     band: &[u8],
+    band_raised: bool,
     moment: Moment,
     limit: u64,
 ) -> bool
-    ensures { λ r. ⌜ r ≡ both (eqb (getD row 2 0) code) (rowMatches (now (list .entry)) row (now (call .entry)) (now (mode .entry)) (now (band .entry)) moment limit) ⌝ }
+    ensures { λ r. ⌜ r ≡ both (eqb (getD row 2 0) code) (rowMatches (now (list .entry)) row (now (call .entry)) (cased «mode_raised» (now (mode .entry))) (cased «band_raised» (now (band .entry))) moment limit) ⌝ }
 {
     if index::number_in(row, 2) != code {
         return false;
@@ -81,7 +103,7 @@ fn is_match(
     if !is_near(moment, moment_in(row), limit) {
         return false;
     }
-    is_key(list, row, call, mode, band)
+    is_key(list, row, call, mode, mode_raised, band, band_raised)
 }
 
 fn chosen(t: bool, a: usize, b: usize) -> usize
@@ -90,19 +112,22 @@ fn chosen(t: bool, a: usize, b: usize) -> usize
     if t { a } else { b }
 }
 
-// The number, from 1, of the first of the list's n contacts that matches; 0 where none does.
+// The number, from 1, of the first of the list's n contacts that matches; 0 where none does. Mode and band are each read as they stand
+// or in capitals.
 pub fn find(
     list: &[u8],
     rows: &[[u32; 14]],
     n: usize,
     call: &[u8],
     mode: &[u8],
+    mode_raised: bool,
     band: &[u8],
+    band_raised: bool,
     moment: Moment,
     limit: u64,
 ) -> usize
     requires { ⌜ Indexed (now list) n (now rows) ⌝ }
-    ensures { λ r. ⌜ r ≡ firstMatch (now (call .entry)) (now (mode .entry)) (now (band .entry)) moment limit (contactsOf (now (list .entry))) ⌝ }
+    ensures { λ r. ⌜ r ≡ firstMatch (now (call .entry)) (cased «mode_raised» (now (mode .entry))) (cased «band_raised» (now (band .entry))) moment limit (contactsOf (now (list .entry))) ⌝ }
 {
     if n == 0 {
         return 0;
@@ -113,7 +138,18 @@ pub fn find(
     let mut best = 0;
     while at != 0 {
         let i = at - 1;
-        let t = is_match(list, rows[i], code, call, mode, band, moment, limit);
+        let t = is_match(
+            list,
+            rows[i],
+            code,
+            call,
+            mode,
+            mode_raised,
+            band,
+            band_raised,
+            moment,
+            limit,
+        );
         best = chosen(t, at, best);
         at = index::number_in(rows[i], 1);
     }

@@ -8,10 +8,10 @@ use Rattle.search.proofs.chosen.Reads as chosen-reads
 use Rattle.search.proofs.is_match.Reads as is-match-reads
 
 abbrev Inv-loop : tie.InvT-loop
-Inv-loop list rows n call mode band moment limit code b at₀ best₀ at best = Walking list rows call mode band moment limit n code at best
+Inv-loop list rows n call mode mr band br moment limit code b at₀ best₀ at best = Walking list rows call mode mr band br moment limit n code at best
 
 abbrev μ-loop : tie.MeasureT-loop
-μ-loop list rows n call mode band moment limit code b at₀ best₀ at best = at
+μ-loop list rows n call mode mr band br moment limit code b at₀ best₀ at best = at
 
 returns : tie.Need-returns Inv-loop μ-loop
 returns c = search (needs, find-none)

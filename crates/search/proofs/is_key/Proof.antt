@@ -4,7 +4,7 @@ use Rattle.search.proofs.is_key.Statement.{statement}
 use Rattle.search.proofs.is_key.Tie as tie
 use Rattle.contacts.proofs.text_at.Reads as text-at-reads
 use Rattle.index.proofs.number_in.Reads as number-in-reads
-use Rattle.letters.proofs.same.Reads as same-reads
+use Rattle.dedupe.proofs.same_cased.Reads as same-cased-reads
 use Rattle.letters.proofs.same_raised.Reads as same-raised-reads
 
 number-in-requires : tie.Need-number-in-requires
@@ -25,8 +25,8 @@ number-in-requires-2 c κs = search needs
 text-at-requires-2 : tie.Need-text-at-requires-2
 text-at-requires-2 c κs = search needs
 
-same-requires : tie.Need-same-requires
-same-requires c κs = search needs
+same-cased-requires : tie.Need-same-cased-requires
+same-cased-requires c κs = search needs
 
 returns-2 : tie.Need-returns-2
 returns-2 c = search (needs, key-mode)
@@ -37,8 +37,8 @@ number-in-requires-3 c κs = search needs
 text-at-requires-3 : tie.Need-text-at-requires-3
 text-at-requires-3 c κs = search needs
 
-same-requires-2 : tie.Need-same-requires-2
-same-requires-2 c κs = search needs
+same-cased-requires-2 : tie.Need-same-cased-requires-2
+same-cased-requires-2 c κs = search needs
 
 returns-3 : tie.Need-returns-3
 returns-3 c = search (needs, key-band)
@@ -53,9 +53,9 @@ is-key-spec =
     returns
     number-in-requires-2
     text-at-requires-2
-    same-requires
+    same-cased-requires
     returns-2
     number-in-requires-3
     text-at-requires-3
-    same-requires-2
+    same-cased-requires-2
     returns-3)

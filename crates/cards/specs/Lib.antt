@@ -1,0 +1,3 @@
+pub mod Carded
+pub mod Steps
+pub mod Examples

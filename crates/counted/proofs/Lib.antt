@@ -1,0 +1,4 @@
+pub mod AlikeLaws
+pub mod WalkLaws
+pub mod MarkLaws
+pub mod Determined

@@ -1,0 +1,12 @@
+-- The promise of `fill` is met by one table of rows. Assumes nothing.
+use mathlib.Core.Path.{_≡_, sym, _∙_}
+use contract.Lifetimes.{Lfts}
+use denote.Triple.Clauses.{AtExit}
+use denote.Ref.{now}
+use borrow.Fn.Kinds.{Dens, resT, endedOf}
+use Rattle.entries.proofs.fill.Reads as fill
+use Rattle.entries.proofs.fill.Kinds as fill-kinds
+
+fill-once : (κs : Lfts 3) (a : Dens κs fill-kinds.ps) (x y : resT fill-kinds.r κs .Denot) (d e : AtExit (endedOf 3 fill-kinds.ps fill-kinds.r) κs)
+    → fill.Post κs a x d → fill.Post κs a y e → now (d .1 .1 .1 .0) ≡ now (e .1 .1 .1 .0)
+fill-once κs a x y d e p q = p .0 ∙ sym (q .0)

@@ -1,0 +1,6 @@
+pub mod ReadFit
+pub mod WalkLaws
+pub mod JudgeLaws
+pub mod RowLaws
+pub mod FilledLaws
+pub mod Determined

@@ -1,0 +1,4 @@
+pub mod Row
+pub mod Filled
+pub mod Walked
+pub mod Examples

@@ -1,0 +1,4 @@
+pub mod FoundLaws
+pub mod StepLaws
+pub mod SettleLaws
+pub mod Determined

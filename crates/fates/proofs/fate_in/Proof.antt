@@ -1,0 +1,38 @@
+use Rattle.fates.proofs.StepLaws.{settled-already, repeats-another, repeats-none}
+use borrow.Author.Needs.{needs}
+use Rattle.fates.proofs.fate_in.Statement.{statement}
+use Rattle.fates.proofs.fate_in.Tie as tie
+use Rattle.fates.proofs.fate_in.Reads as reads
+
+mul-first-fate : tie.Need-mul-first-fate
+mul-first-fate c = search needs
+
+shared-slice-copy-out-first-fate : tie.Need-shared-slice-copy-out-first-fate
+shared-slice-copy-out-first-fate c = search needs
+
+first-fate-requires : tie.Need-first-fate-requires
+first-fate-requires c κs = search needs
+
+returns : tie.Need-returns
+returns c = search settled-already
+
+is-repeated-requires : tie.Need-is-repeated-requires
+is-repeated-requires c κs = search needs
+
+returns-2 : tie.Need-returns-2
+returns-2 c = search repeats-another
+
+returns-3 : tie.Need-returns-3
+returns-3 c = search repeats-none
+
+pub fate-in-spec : {M : Type 1} → statement M
+fate-in-spec =
+    tie.close
+    (tie.spec
+    mul-first-fate
+    shared-slice-copy-out-first-fate
+    first-fate-requires
+    returns
+    is-repeated-requires
+    returns-2
+    returns-3)

@@ -1,0 +1,160 @@
+// Duplicates inside a file. The importable records of a plan's rows stand in chains, one for each remainder of their codes, so that a
+// record is compared with those of its own chain only.
+ghost use mathlib.Core.Path.{_≡_};
+ghost use mathlib.Core.List.{[]};
+ghost use Prim.Native.Nat.{ℕ, _+_, _*_, _≤_, _<_};
+ghost use lib.ListN.{length, getD};
+ghost use lib.Dec.{eqb};
+ghost use Rattle.text.specs.Pick.{both};
+ghost use Rattle.tables.specs.Place.{place};
+ghost use Rattle.chain.specs.Chain.{col};
+ghost use Rattle.entries.specs.Row.{keyIn, momentIn};
+ghost use Rattle.infile.specs.Infile.{alike, repeatedIn, Chained, withHead, withNext, pushed};
+use dedupe::Key;
+use tables::Place;
+use times::Moment;
+
+// The number in a column of a row.
+pub fn number_in(row: [u32; 28], column: usize) -> usize
+    requires { ⌜ column < 28 ⌝ }
+    ensures { λ r. ⌜ r ≡ getD row column 0 ⌝ }
+{
+    row[column] as usize
+}
+
+fn place_of(kind: u32, start: u32, len: u32) -> Place
+    ensures { λ r. ⌜ r ≡ place kind start len ⌝ }
+{
+    Place { kind, start, len }
+}
+
+pub fn key_in(row: [u32; 28]) -> Key
+    ensures { λ r. ⌜ r ≡ keyIn row ⌝ }
+{
+    let call = place_of(row[5], row[6], row[7]);
+    let mode = place_of(row[8], row[9], row[10]);
+    let band = place_of(row[11], row[12], row[13]);
+    Key { call, mode, band }
+}
+
+pub fn moment_in(row: [u32; 28]) -> Moment
+    ensures { λ r. ⌜ r ≡ momentIn row ⌝ }
+{
+    search::moment_from(row[17], row[18], row[19])
+}
+
+// The codes, then the times, then the texts.
+fn is_alike(text: &[u8], earlier: [u32; 28], row: [u32; 28], limit: u64) -> bool
+    ensures { λ r. ⌜ r ≡ both (eqb (getD earlier 4 0) (getD row 4 0)) (alike (now (text .entry)) limit earlier row) ⌝ }
+{
+    if number_in(earlier, 4) != number_in(row, 4) {
+        return false;
+    }
+    if !search::is_near(moment_in(earlier), moment_in(row), limit) {
+        return false;
+    }
+    dedupe::in_file(text, key_in(earlier), text, key_in(row))
+}
+
+// Record k of n repeats an earlier importable one.
+pub fn is_repeated(text: &[u8], rows: &[[u32; 28]], n: usize, k: usize, limit: u64) -> bool
+    requires { ⌜ Chained (now text) n k (now rows) × (k < n) ⌝ }
+    ensures { λ r. ⌜ r ≡ repeatedIn (now (text .entry)) limit (now (rows .entry)) k ⌝ }
+{
+    let b = number_in(rows[k], 4) % n;
+    let mut at = number_in(rows[b], 2);
+    while at != 0 {
+        let i = at - 1;
+        if is_alike(text, rows[i], rows[k], limit) {
+            return true;
+        }
+        at = number_in(rows[i], 3);
+    }
+    false
+}
+
+fn head_in(row: [u32; 28]) -> u32
+    ensures { λ r. ⌜ r ≡ getD row 2 0 ⌝ }
+{
+    row[2]
+}
+
+fn with_head(r: [u32; 28], v: u32) -> [u32; 28]
+    ensures { λ x. ⌜ x ≡ withHead r v ⌝ }
+{
+    [
+        r[0],
+        r[1],
+        v,
+        r[3],
+        r[4],
+        r[5],
+        r[6],
+        r[7],
+        r[8],
+        r[9],
+        r[10],
+        r[11],
+        r[12],
+        r[13],
+        r[14],
+        r[15],
+        r[16],
+        r[17],
+        r[18],
+        r[19],
+        r[20],
+        r[21],
+        r[22],
+        r[23],
+        r[24],
+        r[25],
+        r[26],
+        r[27],
+    ]
+}
+
+fn with_next(r: [u32; 28], v: u32) -> [u32; 28]
+    ensures { λ x. ⌜ x ≡ withNext r v ⌝ }
+{
+    [
+        r[0],
+        r[1],
+        r[2],
+        v,
+        r[4],
+        r[5],
+        r[6],
+        r[7],
+        r[8],
+        r[9],
+        r[10],
+        r[11],
+        r[12],
+        r[13],
+        r[14],
+        r[15],
+        r[16],
+        r[17],
+        r[18],
+        r[19],
+        r[20],
+        r[21],
+        r[22],
+        r[23],
+        r[24],
+        r[25],
+        r[26],
+        r[27],
+    ]
+}
+
+// Record k goes to the front of chain b.
+pub fn push(rows: &mut [[u32; 28]], b: usize, k: usize)
+    requires { ⌜ (b < length (now rows)) × (k < length (now rows)) × (k < 4294967295) ⌝ }
+    ensures { λ _. ⌜ now (rows .exit) ≡ pushed (now (rows .entry)) b k ⌝ }
+{
+    let was = head_in(rows[b]);
+    rows[k] = with_next(rows[k], was);
+    rows[b] = with_head(rows[b], (k + 1) as u32);
+}

@@ -1,0 +1,5 @@
+pub mod Clearing
+pub mod KeptLaws
+pub mod PhaseLaws
+pub mod ResultLaws
+pub mod AnswerLaws

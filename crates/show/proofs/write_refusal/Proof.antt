@@ -1,0 +1,39 @@
+use Rattle.show.proofs.PlanLaws.{refused-first, refused-next, refused-put}
+use borrow.Author.Needs.{needs}
+use Rattle.show.proofs.write_refusal.Statement.{statement}
+use Rattle.show.proofs.write_refusal.Tie as tie
+use Rattle.show.proofs.write_refusal.Reads as reads
+use Rattle.refusals.proofs.number.Reads as number-reads
+
+slice-aggregate-put-bytes : tie.Need-slice-aggregate-put-bytes
+slice-aggregate-put-bytes c = search needs
+
+put-bytes-requires : tie.Need-put-bytes-requires
+put-bytes-requires c κs = search refused-first
+
+number-requires : tie.Need-number-requires
+number-requires c κs = search needs
+
+cast-put-number : tie.Need-cast-put-number
+cast-put-number c = search needs
+
+put-number-requires : tie.Need-put-number-requires
+put-number-requires c κs = search refused-next
+
+same-length : tie.Need-same-length
+same-length c = search needs
+
+returns : tie.Need-returns
+returns c = search refused-put
+
+pub write-refusal-spec : {M : Type 1} → statement M
+write-refusal-spec =
+    tie.close
+    (tie.spec
+    slice-aggregate-put-bytes
+    put-bytes-requires
+    number-requires
+    cast-put-number
+    put-number-requires
+    same-length
+    returns)
