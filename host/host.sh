@@ -16,6 +16,7 @@ host=$root/host
 cache=${OXBREATHE_CACHE:-${HOME:-$root}/.cache/oxbreathe}
 out=$root/.cache/host # this checkout's own build; what checkouts can share is in $cache
 vectors=$root/crates/replay/data
+samples=$root/samples/plans # files beside what showplan prints of them
 arch=$(uname -m)
 target=x86_64-unknown-linux-gnu
 
@@ -159,7 +160,8 @@ original() {
     mkdir -p "$out/original"
     ln -sfn "$(cd "$source" && pwd -P)" "$out/original/rigflow"
     cp "$host/original/lib.rs" "$out/original/lib.rs"
-    crate original 2024 "$out/original/lib.rs" --crate-type rlib --cap-lints allow \
+    crate rusqlite 2024 "$host/original/rusqlite.rs" --crate-type rlib "$@"
+    crate original 2024 "$out/original/lib.rs" --crate-type rlib --cap-lints allow --extern rusqlite="$to/librusqlite.rlib" \
         --extern serde="$deps/libserde.so" --extern chrono="$deps/libchrono.rlib" -L "$deps" "$@"
     with_original="--cfg original --extern original=$to/liboriginal.rlib -L $deps"
 }
@@ -237,8 +239,8 @@ export RUST_BACKTRACE=0
 case ${1:-} in
 compare)
     case ${2:-} in
-    '') compare sample "$vectors" ;;
-    full) compare full "$vectors" ;;
+    '') compare sample "$vectors" "$samples" ;;
+    full) compare full "$vectors" "$samples" ;;
     *) die "compare takes nothing, or full" ;;
     esac
     ;;
@@ -248,8 +250,8 @@ library)
     ;;
 bench) bench ;;
 record)
-    mkdir -p "${2:-$vectors}"
-    compare record "${2:-$vectors}"
+    mkdir -p "${2:-$vectors}" "${2:-$samples}"
+    compare record "${2:-$vectors}" "${2:-$samples}"
     ;;
 *)
     sed -n '3,6s/^#   //p' "$0"

@@ -51,14 +51,15 @@ fn moment(date: &str, time: &str) -> Moment {
     parse_dt(date, time).map(|t| t.timestamp())
 }
 
-/// The contacts of a list that is whole.
-fn contacts(list: &[u8]) -> impl Iterator<Item = (u64, [&str; 5])> {
+/// The contacts of a list that is whole: id, services and texts.
+pub fn contacts(list: &[u8]) -> impl Iterator<Item = (u64, u8, [&str; 5])> {
     let mut rest = &list[5..];
     std::iter::from_fn(move || {
         let (size, after) = rest.split_at_checked(2)?;
         let (mut body, next) = after.split_at_checked(u16::from_be_bytes([size[0], size[1]]) as usize)?;
         rest = next;
         let id = u64::from_be_bytes(body.get(..8)?.try_into().ok()?);
+        let services = *body.get(8)?;
         body = body.get(9..)?;
         let mut text = || {
             let (&length, after) = body.split_first()?;
@@ -66,13 +67,13 @@ fn contacts(list: &[u8]) -> impl Iterator<Item = (u64, [&str; 5])> {
             body = after;
             from_utf8(text).ok()
         };
-        Some((id, [text()?, text()?, text()?, text()?, text()?]))
+        Some((id, services, [text()?, text()?, text()?, text()?, text()?]))
     })
 }
 
 fn map(list: &[u8]) -> HashMap<Key, Vec<(u64, Moment)>> {
     let mut map: HashMap<Key, Vec<(u64, Moment)>> = HashMap::new();
-    for (id, [call, date, time, band, mode]) in contacts(list) {
+    for (id, _, [call, date, time, band, mode]) in contacts(list) {
         let key = (call.to_ascii_uppercase(), band.to_string(), mode.to_string());
         map.entry(key).or_default().push((id, moment(date, time)));
     }
@@ -86,7 +87,7 @@ fn mapped((list, _): Lists) -> usize {
 fn looked_up((list, other): Lists) -> u64 {
     let map = map(list);
     let near = |a: Moment, b: Moment| matches!((a, b), (Some(a), Some(b)) if (a - b).abs() <= 1800);
-    let first = |(_, [call, date, time, band, mode]): (u64, [&str; 5])| {
+    let first = |(_, _, [call, date, time, band, mode]): (u64, u8, [&str; 5])| {
         let key = (call.to_ascii_uppercase(), band.to_string(), mode.to_string());
         let when = moment(date, time);
         map.get(&key)?.iter().find(|(_, at)| near(*at, when)).map(|(id, _)| *id)
@@ -95,21 +96,13 @@ fn looked_up((list, other): Lists) -> u64 {
 }
 
 /// A log of contacts by number, of which a tenth share a key with another.
-fn list(numbers: std::ops::Range<u64>, key: fn(u64) -> u64) -> Vec<u8> {
+pub fn list(numbers: std::ops::Range<u64>, key: fn(u64) -> u64) -> Vec<u8> {
     let mut list = vec![1];
     list.extend((numbers.end as u32).to_be_bytes());
     for i in numbers {
-        let k = key(i);
-        let texts = [
-            format!("{}{}{}", ["DL", "W", "JA", "G"][k as usize % 4], k % 10, letters(k / 10 % 9_000)),
-            format!("20{:02}{:02}{:02}", i / 336 % 100, i / 28 % 12 + 1, i % 28 + 1),
-            format!("{:02}{:02}{:02}", k % 24, k % 60, k * 7 % 60),
-            ["40m", "20m", "2m"][k as usize % 3].to_string(),
-            ["SSB", "CW", "FT8"][k as usize / 3 % 3].to_string(),
-        ];
         let mut body = (i + 1).to_be_bytes().to_vec();
         body.push((i % 16) as u8);
-        for text in texts {
+        for text in texts(key(i), i) {
             body.push(text.len() as u8);
             body.extend(text.bytes());
         }
@@ -117,6 +110,17 @@ fn list(numbers: std::ops::Range<u64>, key: fn(u64) -> u64) -> Vec<u8> {
         list.extend(body);
     }
     list
+}
+
+/// Call, date, time, band and mode of contact i with key k.
+pub fn texts(k: u64, i: u64) -> [String; 5] {
+    [
+        format!("{}{}{}", ["DL", "W", "JA", "G"][k as usize % 4], k % 10, letters(k / 10 % 9_000)),
+        format!("20{:02}{:02}{:02}", i / 336 % 100, i / 28 % 12 + 1, i % 28 + 1),
+        format!("{:02}{:02}{:02}", k % 24, k % 60, k * 7 % 60),
+        ["40m", "20m", "2m"][k as usize % 3].to_string(),
+        ["SSB", "CW", "FT8"][k as usize / 3 % 3].to_string(),
+    ]
 }
 
 fn letters(mut n: u64) -> String {

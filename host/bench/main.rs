@@ -10,6 +10,8 @@ mod measure;
 #[cfg(original)]
 mod model;
 #[cfg(original)]
+mod plan;
+#[cfg(original)]
 mod reading;
 mod rows;
 #[cfg(original)]

@@ -51,6 +51,8 @@ pub fn all() -> Vec<Row> {
     rows.extend(crate::dedupe::rows());
     #[cfg(original)]
     rows.extend(crate::contacts::rows());
+    #[cfg(original)]
+    rows.extend(crate::plan::rows());
     rows
 }
 

@@ -141,7 +141,7 @@ fn moment(contact: &Contact) -> Option<i64> {
 }
 
 /// The index, with its chains.
-fn indexed(list: &[u8], room: usize) -> (MarkAnswer, Vec<Record>) {
+pub fn indexed(list: &[u8], room: usize) -> (MarkAnswer, Vec<Record>) {
     let mut index = vec![[0; 14]; room];
     let answer = marked(list);
     let Ok(contacts) = read(list) else { return (answer, index) };
@@ -156,9 +156,8 @@ fn indexed(list: &[u8], room: usize) -> (MarkAnswer, Vec<Record>) {
             at += 1 + text.len() as u32;
             here
         });
-        let raised = contact.call.to_ascii_uppercase();
-        let bytes = raised.iter().chain(&contact.mode).chain(&contact.band);
-        row[2] = bytes.fold(0, |h: u32, &b| h.wrapping_mul(2_654_435_761).wrapping_add(b as u32));
+        let bytes = contact.call.iter().chain(&contact.mode).chain(&contact.band).map(u8::to_ascii_uppercase);
+        row[2] = bytes.fold(0, |h: u32, b| h.wrapping_mul(2_654_435_761).wrapping_add(b as u32));
         row[3..5].copy_from_slice(&half(contact.id));
         row[5] = contact.services as u32;
         row[6..11].copy_from_slice(&places);

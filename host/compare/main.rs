@@ -1,11 +1,13 @@
 //! The comparison: the library's answers beside those of Rust's std and of the original, in one process.
-//!   compare sample|full VECTORS   every group, at that depth; VECTORS is the folder of recorded answers to replay
-//!   compare record DIR            records those answers
+//!   compare sample|full VECTORS SAMPLES   every group, at that depth; VECTORS and SAMPLES are the folders of recorded answers to replay,
+//!                                         and of files beside what showplan prints of them
+//!   compare record VECTORS SAMPLES        records those answers
 //! SEED changes the random part; ONLY runs the groups whose name starts with it.
 
 mod contacts;
 #[cfg(original)]
 mod dedupe;
+mod files;
 mod frequency;
 mod generate;
 mod harness;
@@ -16,6 +18,8 @@ mod normalize;
 mod notation;
 #[cfg(original)]
 mod original;
+#[cfg(original)]
+mod plan;
 #[cfg(original)]
 mod qso;
 mod reading;
@@ -35,23 +39,25 @@ fn main() -> ExitCode {
     let arguments: Vec<String> = std::env::args().skip(1).collect();
     let seed = std::env::var("SEED").map_or(Ok(SEED), |s| s.parse()).expect("SEED is a number");
     match arguments.iter().map(String::as_str).collect::<Vec<_>>()[..] {
-        ["record", folder] => vectors::record(Path::new(folder), seed),
-        [depth @ ("sample" | "full"), folder] => compare(Run::new(depth == "full", seed), Path::new(folder)),
+        ["record", folder, samples] => vectors::record(Path::new(folder), Path::new(samples), seed),
+        [depth @ ("sample" | "full"), folder, samples] => {
+            compare(Run::new(depth == "full", seed), Path::new(folder), Path::new(samples))
+        }
         _ => {
-            eprintln!("compare sample|full VECTORS, or compare record DIR");
+            eprintln!("compare sample|full|record VECTORS SAMPLES");
             ExitCode::from(2)
         }
     }
 }
 
 /// Every area's groups. A new area is a module with a `run`, called here.
-fn compare(mut run: Run, folder: &Path) -> ExitCode {
+fn compare(mut run: Run, folder: &Path, samples: &Path) -> ExitCode {
     text::run(&mut run);
     frequency::run(&mut run);
     reading::run(&mut run);
     writing::run(&mut run);
     contacts::run(&mut run);
-    vectors::run(&mut run, folder);
+    vectors::run(&mut run, folder, samples);
     #[cfg(original)]
     normalize::run(&mut run);
     #[cfg(original)]
@@ -60,6 +66,8 @@ fn compare(mut run: Run, folder: &Path) -> ExitCode {
     qso::run(&mut run);
     #[cfg(original)]
     dedupe::run(&mut run);
+    #[cfg(original)]
+    plan::run(&mut run);
     #[cfg(original)]
     original::run(&mut run);
     #[cfg(not(original))]

@@ -16,6 +16,7 @@ pub mod contacts;
 pub mod dedupe;
 pub mod frequency;
 pub mod normalize;
+pub mod plan;
 pub mod reading;
 mod refusal;
 pub mod sys;

@@ -239,6 +239,45 @@ pub struct Contact<'a> {
 /// What the contact index keeps of a contact.
 pub type Record = [u32; 14];
 
+/// What a plan counts: records, those to import, contacts and services newly confirmed and confirmed already, duplicates,
+/// confirmations that match no contact, and unusable records.
+#[repr(C)]
+#[derive(Clone, Copy, Debug, Default, PartialEq, Eq)]
+pub struct Counts {
+    pub total: u64,
+    pub importable: u64,
+    pub confirmations: u64,
+    pub already_confirmed: u64,
+    pub duplicates: u64,
+    pub unmatched: u64,
+    pub unusable: u64,
+}
+
+/// How a plan was made: refused, with what comes with the reader's refusals, or how much of each table is in use, the list's
+/// mark and the counts.
+#[repr(C)]
+#[derive(Clone, Copy, Debug, Default, PartialEq, Eq)]
+pub struct PlanAnswer {
+    pub refusal: u32,
+    pub place: usize,
+    pub name: usize,
+    pub name_length: usize,
+    pub wanted: u64,
+    pub left: u64,
+    pub records: usize,
+    pub rows: usize,
+    pub confirmations: usize,
+    pub contacts: usize,
+    pub largest: u64,
+    pub counts: Counts,
+}
+
+/// A record's fate and reason; the rest is room to work in, and zero after the call.
+pub type Fated = [u32; 28];
+
+/// A contact's id, low half first, the bit of the service that confirms it, and where the date stands in the text and how long it is.
+pub type Confirmed = [u32; 5];
+
 mod c {
     use super::*;
 
@@ -402,6 +441,23 @@ mod c {
             found: *mut u64,
             numbers: usize,
         ) -> MarkAnswer;
+        pub fn ox_plan(
+            text: *const u8,
+            length: usize,
+            list: *const u8,
+            list_length: usize,
+            window: i64,
+            download: bool,
+            table: *mut u32,
+            numbers: usize,
+            index: *mut Record,
+            contacts: usize,
+            fates: *mut Fated,
+            records: usize,
+            confirmations: *mut Confirmed,
+            count: usize,
+        ) -> PlanAnswer;
+        pub fn ox_plan_summary(counts: Counts, out: *mut u8, room: usize) -> Written;
     }
 }
 
@@ -599,4 +655,35 @@ pub fn contacts_append(out: &mut [u8], used: usize, contacts: usize, largest: u6
             mode.len(),
         )
     }
+}
+pub fn plan(
+    [text, list]: [&[u8]; 2],
+    window: i64,
+    download: bool,
+    table: &mut [u32],
+    index: &mut [Record],
+    fates: &mut [Fated],
+    confirmations: &mut [Confirmed],
+) -> PlanAnswer {
+    unsafe {
+        c::ox_plan(
+            text.as_ptr(),
+            text.len(),
+            list.as_ptr(),
+            list.len(),
+            window,
+            download,
+            table.as_mut_ptr(),
+            table.len(),
+            index.as_mut_ptr(),
+            index.len(),
+            fates.as_mut_ptr(),
+            fates.len(),
+            confirmations.as_mut_ptr(),
+            confirmations.len(),
+        )
+    }
+}
+pub fn plan_summary(counts: Counts, out: &mut [u8]) -> Written {
+    unsafe { c::ox_plan_summary(counts, out.as_mut_ptr(), out.len()) }
 }

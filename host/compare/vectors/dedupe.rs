@@ -1,6 +1,6 @@
 //! The vectors of `dedupe`, answered by the original: moments in seconds since the first day of year 0, and the keys.
 
-use super::{Area, Operation, Question, told};
+use super::{Area, LONGEST_LINE, Operation, Question, told};
 use crate::generate::Random;
 use crate::notation::Argument::{self, Number, Text};
 use oxbreathe::dedupe;
@@ -13,6 +13,7 @@ pub const AREA: Area = Area {
         "day; seconds since the first day of year 0, or none. keys: two contacts, each a call, a mode and a band one after the",
         "other, and the lengths of call and mode of each; whether they match in the log, in the file, and as natural keys.",
     ],
+    longest: LONGEST_LINE,
     operations: &[
         Operation {
             name: "moment",

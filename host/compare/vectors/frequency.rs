@@ -1,6 +1,6 @@
 //! The vectors of `mhz`, answered by std's f64: frequencies read inside the exact window, and written.
 
-use super::{Area, Operation, Question, told};
+use super::{Area, LONGEST_LINE, Operation, Question, told};
 use crate::generate::Random;
 use crate::notation::Argument::{self, Number, Text};
 use crate::notation::bars;
@@ -13,6 +13,7 @@ pub const AREA: Area = Area {
         "What Rust's f64 answers on frequencies, one vector a line: OPERATION ARG = ANSWER. hertz: a text of megahertz in",
         "bars; its whole hertz, or none where it is no number or one below zero. megahertz: a number of hertz; its text.",
     ],
+    longest: LONGEST_LINE,
     operations: &[
         Operation {
             name: "hertz",

@@ -4,6 +4,7 @@
 mod dedupe;
 mod frequency;
 mod normalize;
+mod plan;
 mod reading;
 mod text;
 mod writing;
@@ -13,16 +14,19 @@ use crate::harness::{Group, Input, Run};
 use crate::notation::Argument;
 use oxbreathe::Refusal;
 use std::collections::HashSet;
-use std::path::Path;
+use std::path::{Path, PathBuf};
 use std::process::ExitCode;
 
-const AREAS: [Area; 6] = [text::AREA, frequency::AREA, normalize::AREA, reading::AREA, writing::AREA, dedupe::AREA];
+const AREAS: [Area; 7] =
+    [text::AREA, frequency::AREA, normalize::AREA, reading::AREA, writing::AREA, dedupe::AREA, plan::AREA];
 
 struct Area {
     /// The file's name without `.txt`.
     name: &'static str,
     /// Comment lines that open the file, without their `#`.
     head: &'static [&'static str],
+    /// A longer line is left out: a Rattle program reads lines into a buffer of fixed size.
+    longest: usize,
     operations: &'static [Operation],
     /// What to record: operations by name, with their arguments.
     questions: fn(&mut Random) -> Vec<Question>,
@@ -50,8 +54,9 @@ fn told<T>(answer: Result<T, Refusal>, show: impl FnOnce(T) -> String) -> String
 
 // Replaying
 
-/// Every vector of the folder, a group a file: the library's answer and, so that a record never goes stale, theirs.
-pub fn run(run: &mut Run, folder: &Path) {
+/// Every vector of the folder, a group a file, and every file of the samples: the library's answer and, so that a record never goes
+/// stale, theirs.
+pub fn run(run: &mut Run, folder: &Path, samples: &Path) {
     for area in AREAS {
         let file = folder.join(area.name).with_extension("txt");
         let Ok(lines) = std::fs::read_to_string(&file) else {
@@ -62,6 +67,25 @@ pub fn run(run: &mut Run, folder: &Path) {
             lines.lines().filter(|line| !line.starts_with('#')).for_each(|line| replay(g, &area, line));
         });
     }
+    let shown: Vec<(Vec<u8>, Vec<u8>)> = (1..)
+        .map(|number| sample(samples, number))
+        .map_while(|[file, printed]| Some((std::fs::read(file).ok()?, std::fs::read(printed).ok()?)))
+        .collect();
+    if shown.is_empty() {
+        return run.left_out(&format!("no files at {}", samples.display()));
+    }
+    run.group("vectors/showplan", |g| {
+        for (text, printed) in &shown {
+            let printed = String::from_utf8_lossy(printed);
+            g.same(&text[..], plan::printed(&plan::showplan(text)), printed.to_string());
+            g.same(&text[..], plan::expected(text), printed.to_string());
+        }
+    });
+}
+
+/// A file to plan, and what showplan prints of it.
+fn sample(folder: &Path, number: usize) -> [PathBuf; 2] {
+    ["adi", "txt"].map(|kind| folder.join(format!("{number:02}.{kind}")))
 }
 
 fn replay(g: &mut Group, area: &Area, line: &str) {
@@ -93,21 +117,35 @@ fn read<'a>(area: &'a Area, line: &'a str) -> Option<(&'a Operation, Vec<Argumen
 
 // Recording
 
-/// A longer line is left out: a Rattle program reads lines into a buffer of fixed size.
+/// Of a line, where an area wants no more.
 const LONGEST_LINE: usize = 400;
 
-pub fn record(folder: &Path, seed: u64) -> ExitCode {
+pub fn record(folder: &Path, samples: &Path, seed: u64) -> ExitCode {
+    match recorded(folder, samples, seed) {
+        Ok(()) => ExitCode::SUCCESS,
+        Err(error) => {
+            eprintln!("{error}");
+            ExitCode::FAILURE
+        }
+    }
+}
+
+fn recorded(folder: &Path, samples: &Path, seed: u64) -> Result<(), String> {
+    let write =
+        |file: &Path, bytes: &[u8]| std::fs::write(file, bytes).map_err(|error| format!("{}: {error}", file.display()));
     for area in AREAS {
         let file = folder.join(area.name).with_extension("txt");
         let lines = lines(&area, seed);
-        if let Err(error) = std::fs::write(&file, &lines) {
-            eprintln!("{}: {error}", file.display());
-            return ExitCode::FAILURE;
-        }
+        write(&file, lines.as_bytes())?;
         let vectors = lines.lines().filter(|line| !line.starts_with('#')).count();
         println!("{}: {vectors} vectors, {} bytes", file.display(), lines.len());
     }
-    ExitCode::SUCCESS
+    for (number, text) in (1..).zip(plan::files(&mut Random::new(seed))) {
+        let [file, printed] = sample(samples, number);
+        write(&file, text.as_bytes())?;
+        write(&printed, plan::expected(text.as_bytes()).as_bytes())?;
+    }
+    Ok(())
 }
 
 fn lines(area: &Area, seed: u64) -> String {
@@ -118,7 +156,7 @@ fn lines(area: &Area, seed: u64) -> String {
         let operation = area.operation(name).expect("an operation of the area");
         let shown: Vec<String> = arguments.iter().map(Argument::show).collect();
         let line = format!("{name} {} = {}", shown.join(" "), (operation.theirs)(&arguments));
-        if line.len() <= LONGEST_LINE && seen.insert(line.clone()) {
+        if line.len() <= area.longest && seen.insert(line.clone()) {
             lines.push(line);
         }
     }

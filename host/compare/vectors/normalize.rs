@@ -1,6 +1,6 @@
 //! The vectors of `normalize`, answered by the original: its operations, and what is recorded of each.
 
-use super::{Area, Operation, Question, told};
+use super::{Area, LONGEST_LINE, Operation, Question, told};
 use crate::generate::{Random, WHITE, damage};
 use crate::notation::Argument::{self, Number, Text};
 use crate::notation::bars;
@@ -14,6 +14,7 @@ pub const AREA: Area = Area {
         "band: a text; the band that it names. mode: a mode alone, or a mode and a submode; both as they come out. class: a",
         "mode; its class. class_named: a text; the class that it names. Where there is nothing, the answer is none.",
     ],
+    longest: LONGEST_LINE,
     operations: OPERATIONS,
     questions,
 };

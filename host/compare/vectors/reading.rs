@@ -1,7 +1,7 @@
 //! The vectors of the reader, answered by the rules of `crate::reading` on Rust's str, which the comparison holds against the
 //! original.
 
-use super::{Area, Operation, Question};
+use super::{Area, LONGEST_LINE, Operation, Question};
 use crate::generate::{Random, damage};
 use crate::notation::Argument::{Number, Text};
 use crate::reading::{document, expected};
@@ -14,6 +14,7 @@ pub const AREA: Area = Area {
         "not visible ASCII, or is a bar or a percent sign; NUMBERS is the size of the lent table. The answer: the refusal or",
         "0, the place, the place and the length of the name, wanted, left, the records and the rows; then the whole table.",
     ],
+    longest: LONGEST_LINE,
     operations: &[Operation {
         name: "read",
         theirs: |a| {

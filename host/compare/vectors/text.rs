@@ -1,6 +1,6 @@
 //! The vectors of `text`, answered by Rust's std: its operations, and what is recorded of each.
 
-use super::{Area, Operation, Question, told};
+use super::{Area, LONGEST_LINE, Operation, Question, told};
 use crate::generate::{BESIDE, Random, WHITE, damage, utf8};
 use crate::notation::Argument::{self, Number, Text};
 use crate::notation::bars;
@@ -15,6 +15,7 @@ pub const AREA: Area = Area {
         "bad byte, or the length. trim: the first byte kept and the first one after. order: of the texts in capitals, 0",
         "less, 1 equal, 2 greater. find: a text, where to begin, the byte; its place, or the length.",
     ],
+    longest: LONGEST_LINE,
     operations: OPERATIONS,
     questions,
 };

@@ -1,7 +1,7 @@
 //! The vectors of the writer, answered by the rules of `crate::writing` on Rust's str, which the comparison holds against the
 //! original.
 
-use super::{Area, Operation, Question};
+use super::{Area, LONGEST_LINE, Operation, Question};
 use crate::generate::Random;
 use crate::notation::Argument::{self, Number, Text};
 use crate::notation::bars;
@@ -15,6 +15,7 @@ pub const AREA: Area = Area {
         "rows, and the numbers of the table. journal: no text. export, station: places and lengths of the texts of the call,",
         "in its order. The answer: the refusal or 0, the bytes written, and the whole output of ROOM bytes, points before.",
     ],
+    longest: LONGEST_LINE,
     operations: &[
         Operation {
             name: "write",
