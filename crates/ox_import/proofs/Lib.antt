@@ -1,1 +1,2 @@
 pub mod PlanAnswers
+pub mod Determined

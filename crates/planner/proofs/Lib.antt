@@ -3,3 +3,4 @@ pub mod KeptLaws
 pub mod PhaseLaws
 pub mod ResultLaws
 pub mod AnswerLaws
+pub mod Determined
