@@ -1,9 +1,9 @@
 #!/bin/sh
-# The gate: the layout of the sources, every proof, must-fail edit and program, and the library beside Rust's std and
-# the original. Each part runs whatever the others said. The last line is `N passed, M failed`.
+# The gate: the layout of the sources, every proof, must-fail edit and program, the samples, and the library beside Rust's
+# std and the original. Each part runs whatever the others said. The last line is `N passed, M failed`.
 set -u
-# a prover waits where others of its level or batch still run: more of them than processors keep all processors busy
-export RT_JOBS="${RT_JOBS:-$((3 * $(nproc)))}"
+# a prover waits where others of its level or batch still run: one more than there are processors keeps all of them busy
+export RT_JOBS="${RT_JOBS:-$(($(nproc) + 1))}"
 cd "$(dirname "$0")/.." || exit 1
 log=$(mktemp -d)
 trap 'rm -rf "$log"' EXIT
@@ -36,6 +36,10 @@ count $((status == 0)) 0
 part proofs rt ci
 # shellcheck disable=SC2046
 count $(told '\([0-9]*\) passed, \([0-9]*\) failed')
+
+part samples gate/samples.sh
+# shellcheck disable=SC2046
+count $(told 'samples: \([0-9]*\) passed, \([0-9]*\) failed')
 
 part host host/host.sh compare
 # shellcheck disable=SC2046
