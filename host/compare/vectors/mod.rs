@@ -3,6 +3,7 @@
 
 mod dedupe;
 mod frequency;
+mod model;
 mod normalize;
 mod plan;
 mod reading;
@@ -17,8 +18,8 @@ use std::collections::HashSet;
 use std::path::{Path, PathBuf};
 use std::process::ExitCode;
 
-const AREAS: [Area; 7] =
-    [text::AREA, frequency::AREA, normalize::AREA, reading::AREA, writing::AREA, dedupe::AREA, plan::AREA];
+const AREAS: [Area; 8] =
+    [text::AREA, frequency::AREA, normalize::AREA, reading::AREA, writing::AREA, model::AREA, dedupe::AREA, plan::AREA];
 
 struct Area {
     /// The file's name without `.txt`.
