@@ -39,7 +39,9 @@ impl Run {
             println!("    smallest: {input}\n    library:  {ours}\n    expected: {theirs}");
         }
         if let Some(payload) = &panic {
-            println!("    the group panicked: {}", payload.downcast_ref::<String>().map_or("no message", |s| s));
+            let message =
+                payload.downcast_ref::<String>().map(String::as_str).or(payload.downcast_ref::<&str>().copied());
+            println!("    the group panicked: {}", message.unwrap_or("no message"));
         }
         self.compared += group.compared;
         match group.differ == 0 && group.compared > 0 && panic.is_none() {

@@ -242,9 +242,9 @@ fn rules(g: &mut Group) {
                     let start = text.len() as u32;
                     text.extend_from_slice(bad.as_bytes());
                     table.extend([1, start, bad.len() as u32, 0, 0]);
-                    count += 1;
+                    count = count.saturating_add(1);
                 }
-                5 => count = g.random.pick(&[0, count + 1, count.saturating_sub(1), usize::MAX]),
+                5 => count = g.random.pick(&[0, count.saturating_add(1), count.saturating_sub(1), usize::MAX]),
                 6 => qso.freq.hz = g.random.pick(&[8_589_934_591_999_999, 8_589_934_592_000_000, u64::MAX]),
                 7 => {
                     let k = g.random.place(13);
@@ -252,7 +252,7 @@ fn rules(g: &mut Group) {
                     let (start, len) = (small(&mut g.random), small(&mut g.random));
                     qso.columns[k] = Place { kind: g.random.below(6) as u32, start, len };
                 }
-                _ => room = g.random.place(room),
+                _ => room = g.random.place(room.max(1)),
             }
         }
         if let Ok(out) = same(g, &text, qso, &table, count, room) {
