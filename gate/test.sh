@@ -1,6 +1,6 @@
 #!/bin/sh
-# The gate: the layout of the sources, every proof, must-fail edit and program, the samples, and the library beside Rust's
-# std and the original. Each part runs whatever the others said. The last line is `N passed, M failed`.
+# The gate: the layout of the sources, the page of promises, every proof, must-fail edit and program, the samples, and the library
+# beside Rust's std and the original. Each part runs whatever the others said. The last line is `N passed, M failed`.
 set -u
 # a prover waits where others of its level or batch still run: one more than there are processors keeps all of them busy
 export RT_JOBS="${RT_JOBS:-$(($(nproc) + 1))}"
@@ -32,6 +32,10 @@ told() { sed -n "s/^$1\$/\1 \2/p" "$log/out" | tail -n 1 | grep . || echo 0 1; }
 
 part format rt fmt --check
 count $((status == 0)) 0
+
+part promises gate/promises.sh
+# shellcheck disable=SC2046
+count $(told 'promises: \([0-9]*\) passed, \([0-9]*\) failed')
 
 part proofs rt ci
 # shellcheck disable=SC2046

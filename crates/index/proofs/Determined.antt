@@ -1,5 +1,5 @@
 -- Each public call's promise is met by one answer. Assumes nothing.
-use mathlib.Core.Path.{sym, _∙_}
+use mathlib.Core.Path.{sym, refl, _∙_}
 use denote.Ref.{now}
 use Rattle.text.proofs.Once.{Once, OnceWith}
 use Rattle.index.proofs.code_of.Reads as code-of
@@ -14,6 +14,8 @@ use Rattle.index.proofs.has_moment.Reads as has-moment
 use Rattle.index.proofs.has_moment.Kinds as has-moment-kinds
 use Rattle.index.proofs.seconds_in.Reads as seconds-in
 use Rattle.index.proofs.seconds_in.Kinds as seconds-in-kinds
+use Rattle.index.proofs.clear.Reads as clear
+use Rattle.index.proofs.clear.Kinds as clear-kinds
 use Rattle.index.proofs.build.Reads as build
 use Rattle.index.proofs.build.Kinds as build-kinds
 
@@ -34,6 +36,10 @@ has-moment-once κs a x y d e p q = p ∙ sym q
 
 seconds-in-once : Once 0 seconds-in-kinds.ps seconds-in-kinds.r seconds-in.Post
 seconds-in-once κs a x y d e p q = p ∙ sym q
+
+-- the index
+clear-once : OnceWith 1 clear-kinds.ps clear-kinds.r (λ κs d. now (d .0)) clear.Post
+clear-once κs a x y d e p q = (refl, p ∙ sym q)
 
 -- the answer, and the index
 build-once : OnceWith 2 build-kinds.ps build-kinds.r (λ κs d. now (d .1 .0)) build.Post

@@ -5,6 +5,10 @@ use Rattle.text.proofs.Once.{Once, OnceWith}
 use Rattle.output.specs.Put.{Put}
 use Rattle.mhz.proofs.mhz_string_to_hz.Reads as mhz-string-to-hz
 use Rattle.mhz.proofs.mhz_string_to_hz.Kinds as mhz-string-to-hz-kinds
+use Rattle.mhz.proofs.number.of_text.Reads as of-text
+use Rattle.mhz.proofs.number.of_text.Kinds as of-text-kinds
+use Rattle.mhz.proofs.window.of_decimal.Reads as of-decimal
+use Rattle.mhz.proofs.window.of_decimal.Kinds as of-decimal-kinds
 use Rattle.mhz.proofs.mhz_size.Reads as mhz-size
 use Rattle.mhz.proofs.mhz_size.Kinds as mhz-size-kinds
 use Rattle.mhz.proofs.put_mhz.Reads as put-mhz
@@ -14,6 +18,12 @@ use Rattle.mhz.proofs.hz_to_mhz_string.Kinds as hz-to-mhz-string-kinds
 
 mhz-string-to-hz-once : Once 1 mhz-string-to-hz-kinds.ps mhz-string-to-hz-kinds.r mhz-string-to-hz.Post
 mhz-string-to-hz-once κs a x y d e p q = p ∙ sym q
+
+of-text-once : Once 1 of-text-kinds.ps of-text-kinds.r of-text.Post
+of-text-once κs a x y d e p q = p ∙ sym q
+
+of-decimal-once : Once 0 of-decimal-kinds.ps of-decimal-kinds.r of-decimal.Post
+of-decimal-once κs a x y d e p q = p ∙ sym q
 
 mhz-size-once : Once 0 mhz-size-kinds.ps mhz-size-kinds.r mhz-size.Post
 mhz-size-once κs a x y d e p q = p ∙ sym q

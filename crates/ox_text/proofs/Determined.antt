@@ -2,8 +2,8 @@
 use mathlib.Core.Path.{sym, _∙_}
 use denote.Ref.{now}
 use Rattle.text.proofs.Once.{Once, OnceWith}
-use Rattle.ox_text.proofs.ox_text_digits.Reads as digits
-use Rattle.ox_text.proofs.ox_text_digits.Kinds as digits-kinds
+use Rattle.ox_text.proofs.ox_text_digits.Reads as ox-text-digits
+use Rattle.ox_text.proofs.ox_text_digits.Kinds as ox-text-digits-kinds
 use Rattle.ox_text.proofs.ox_text_check.Reads as ox-text-check
 use Rattle.ox_text.proofs.ox_text_check.Kinds as ox-text-check-kinds
 use Rattle.ox_text.proofs.ox_text_trim.Reads as ox-text-trim
@@ -51,5 +51,5 @@ ox-text-signed-once : Once 1 ox-text-signed-kinds.ps ox-text-signed-kinds.r ox-t
 ox-text-signed-once κs a x y d e p q = p ∙ sym q
 
 -- the answer and the output
-digits-once : OnceWith 1 digits-kinds.ps digits-kinds.r (λ κs d. now (d .1 .0)) digits.Post
-digits-once κs a x y d e p q = (p .answer ∙ sym (q .answer), p .output ∙ sym (q .output))
+ox-text-digits-once : OnceWith 1 ox-text-digits-kinds.ps ox-text-digits-kinds.r (λ κs d. now (d .1 .0)) ox-text-digits.Post
+ox-text-digits-once κs a x y d e p q = (p .answer ∙ sym (q .answer), p .output ∙ sym (q .output))
