@@ -7,6 +7,7 @@
 mod contacts;
 #[cfg(original)]
 mod dedupe;
+mod examples;
 mod files;
 mod frequency;
 mod generate;
@@ -16,8 +17,6 @@ mod model;
 #[cfg(original)]
 mod normalize;
 mod notation;
-#[cfg(original)]
-mod original;
 #[cfg(original)]
 mod plan;
 #[cfg(original)]
@@ -58,6 +57,7 @@ fn compare(mut run: Run, folder: &Path, samples: &Path) -> ExitCode {
     writing::run(&mut run);
     contacts::run(&mut run);
     vectors::run(&mut run, folder, samples);
+    examples::run(&mut run);
     #[cfg(original)]
     normalize::run(&mut run);
     #[cfg(original)]
@@ -68,8 +68,6 @@ fn compare(mut run: Run, folder: &Path, samples: &Path) -> ExitCode {
     dedupe::run(&mut run);
     #[cfg(original)]
     plan::run(&mut run);
-    #[cfg(original)]
-    original::run(&mut run);
     #[cfg(not(original))]
     run.left_out("the original's sources are not at hand (RIGFLOW_SRC): compared with std and the vectors alone");
     run.finish()

@@ -16,7 +16,6 @@ use oxbreathe::{LONGEST, Refusal};
 use std::collections::HashSet;
 
 pub fn run(run: &mut Run) {
-    run.group("plan/examples", examples);
     run.group("plan/files", files);
     run.group("plan/refused", refused);
     run.group("plan/wrapped", wrapped);
@@ -379,8 +378,8 @@ fn used(fates: &[Fated]) -> (Vec<(u32, u32)>, Vec<Fated>) {
 
 // Groups.
 
-/// The document's example, as `showplan` prints it.
-fn examples(g: &mut Group) {
+/// Document 01's example, as `showplan` prints it.
+pub fn example(g: &mut Group) {
     let (text, shown) = EXAMPLE;
     let case = Case { text: text.into(), list: EMPTY.to_vec(), window: 1800, download: false };
     let theirs = same(g, &case, enough(&case)).expect("a plan");

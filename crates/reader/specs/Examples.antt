@@ -1,4 +1,5 @@
--- Document 01's examples of reading: for each text the answer, and the lent table of twelve numbers after it, all of which were 9 before.
+-- Worked examples: for each text the answer, and the lent table of twelve numbers after it, all of which were 9 before. Document 01's own
+-- are in the crate `examples`.
 use mathlib.Core.Path.{_≡_, refl}
 use mathlib.Core.List.{List, [], _∷_}
 use Prim.Native.Nat.{ℕ}
@@ -11,7 +12,7 @@ use Rattle.letters.specs.Capitals.{raised}
 use Rattle.letters.specs.Same.{sameRaised}
 use Rattle.decimal.specs.Decimal.{digitsAfter, digitsOf, leads, unsignedOf}
 use Rattle.refusals.specs.Refusals.{ofText}
-use Rattle.refusals.specs.declared.Refusal.the-variants.{UnterminatedTag, MissingLength, BadLength, TruncatedValue, NonUtf8, FewRows}
+use Rattle.refusals.specs.declared.Refusal.the-variants.{UnterminatedTag, MissingLength, FewRows}
 use Rattle.tags.specs.Tags.{kindOf, colonAt, nameAt, nameLength, namePlace, nameOf, lengthAfter, valueOf, byKind, tagOf, closedAt, openAt, tagAt}
 use Rattle.adif.specs.Reading.{rowName, readTags, readText}
 use Rattle.reader.specs.Table.{answerTo, tableAfter}
@@ -25,59 +26,11 @@ lent = 9 ∷ 9 ∷ 9 ∷ 9 ∷ 9 ∷ 9 ∷ 9 ∷ 9 ∷ 9 ∷ 9 ∷ 9 ∷ 9 ∷ [
 abbrev Reads : List ℕ → Reading → List ℕ → Type 0
 Reads text answer table = (answerTo text lent ≡ answer) × (tableAfter text lent ≡ table)
 
--- no records in an empty text
--- (nothing)
-empty-text : Reads [] (Read 0 0) (0 ∷ 0 ∷ 0 ∷ 0 ∷ 0 ∷ 0 ∷ 0 ∷ 0 ∷ 0 ∷ 0 ∷ 0 ∷ 0 ∷ [])
-unfolding lead ends other run space1 space2 space3 space80 spaceLen spaceBack width trimStart trimEnd trimmed charLen longChar second3 second4 validUpTo raised sameRaised digitsAfter digitsOf leads unsignedOf ofText kindOf colonAt nameAt nameLength namePlace nameOf lengthAfter valueOf byKind tagOf closedAt openAt tagAt rowName readTags readText answerTo tableAfter
-empty-text = (refl, refl)
-
--- none either where no record is closed
--- <CALL:1>A
-not-closed : Reads (60 ∷ 67 ∷ 65 ∷ 76 ∷ 76 ∷ 58 ∷ 49 ∷ 62 ∷ 65 ∷ []) (Read 0 0) (0 ∷ 0 ∷ 0 ∷ 0 ∷ 0 ∷ 0 ∷ 0 ∷ 0 ∷ 0 ∷ 0 ∷ 0 ∷ 0 ∷ [])
-unfolding lead ends other run space1 space2 space3 space80 spaceLen spaceBack width trimStart trimEnd trimmed charLen longChar second3 second4 validUpTo raised sameRaised digitsAfter digitsOf leads unsignedOf ofText kindOf colonAt nameAt nameLength namePlace nameOf lengthAfter valueOf byKind tagOf closedAt openAt tagAt rowName readTags readText answerTo tableAfter
-not-closed = (refl, refl)
-
 -- two records, though the second is not closed
 -- <CALL:1>A<EOR><CALL:1>B
 two-records : Reads (60 ∷ 67 ∷ 65 ∷ 76 ∷ 76 ∷ 58 ∷ 49 ∷ 62 ∷ 65 ∷ 60 ∷ 69 ∷ 79 ∷ 82 ∷ 62 ∷ 60 ∷ 67 ∷ 65 ∷ 76 ∷ 76 ∷ 58 ∷ 49 ∷ 62 ∷ 66 ∷ []) (Read 2 2) (1 ∷ 1 ∷ 4 ∷ 8 ∷ 1 ∷ 2 ∷ 15 ∷ 4 ∷ 22 ∷ 1 ∷ 0 ∷ 0 ∷ [])
 unfolding lead ends other run space1 space2 space3 space80 spaceLen spaceBack width trimStart trimEnd trimmed charLen longChar second3 second4 validUpTo raised sameRaised digitsAfter digitsOf leads unsignedOf ofText kindOf colonAt nameAt nameLength namePlace nameOf lengthAfter valueOf byKind tagOf closedAt openAt tagAt rowName readTags readText answerTo tableAfter
 two-records = (refl, refl)
-
--- a name that is repeated takes the later value: CALL is B
--- <call:1>A<CALL:1>B<EOR>
-repeated : Reads (60 ∷ 99 ∷ 97 ∷ 108 ∷ 108 ∷ 58 ∷ 49 ∷ 62 ∷ 65 ∷ 60 ∷ 67 ∷ 65 ∷ 76 ∷ 76 ∷ 58 ∷ 49 ∷ 62 ∷ 66 ∷ 60 ∷ 69 ∷ 79 ∷ 82 ∷ 62 ∷ []) (Read 1 1) (1 ∷ 10 ∷ 4 ∷ 17 ∷ 1 ∷ 0 ∷ 0 ∷ 0 ∷ 0 ∷ 0 ∷ 0 ∷ 0 ∷ [])
-unfolding lead ends other run space1 space2 space3 space80 spaceLen spaceBack width trimStart trimEnd trimmed charLen longChar second3 second4 validUpTo raised sameRaised digitsAfter digitsOf leads unsignedOf ofText kindOf colonAt nameAt nameLength namePlace nameOf lengthAfter valueOf byKind tagOf closedAt openAt tagAt rowName readTags readText answerTo tableAfter
-repeated = (refl, refl)
-
--- NOTE is "<EOR>": a value is not looked into
--- <NOTE:5><EOR><EOR>
-tag-in-value : Reads (60 ∷ 78 ∷ 79 ∷ 84 ∷ 69 ∷ 58 ∷ 53 ∷ 62 ∷ 60 ∷ 69 ∷ 79 ∷ 82 ∷ 62 ∷ 60 ∷ 69 ∷ 79 ∷ 82 ∷ 62 ∷ []) (Read 1 1) (1 ∷ 1 ∷ 4 ∷ 8 ∷ 5 ∷ 0 ∷ 0 ∷ 0 ∷ 0 ∷ 0 ∷ 0 ∷ 0 ∷ [])
-unfolding lead ends other run space1 space2 space3 space80 spaceLen spaceBack width trimStart trimEnd trimmed charLen longChar second3 second4 validUpTo raised sameRaised digitsAfter digitsOf leads unsignedOf ofText kindOf colonAt nameAt nameLength namePlace nameOf lengthAfter valueOf byKind tagOf closedAt openAt tagAt rowName readTags readText answerTo tableAfter
-tag-in-value = (refl, refl)
-
--- A is "xy": a plus before the length, and a type, which is ignored
--- <A:+02:S>xy<EOR>
-plus-and-type : Reads (60 ∷ 65 ∷ 58 ∷ 43 ∷ 48 ∷ 50 ∷ 58 ∷ 83 ∷ 62 ∷ 120 ∷ 121 ∷ 60 ∷ 69 ∷ 79 ∷ 82 ∷ 62 ∷ []) (Read 1 1) (1 ∷ 1 ∷ 1 ∷ 9 ∷ 2 ∷ 0 ∷ 0 ∷ 0 ∷ 0 ∷ 0 ∷ 0 ∷ 0 ∷ [])
-unfolding lead ends other run space1 space2 space3 space80 spaceLen spaceBack width trimStart trimEnd trimmed charLen longChar second3 second4 validUpTo raised sameRaised digitsAfter digitsOf leads unsignedOf ofText kindOf colonAt nameAt nameLength namePlace nameOf lengthAfter valueOf byKind tagOf closedAt openAt tagAt rowName readTags readText answerTo tableAfter
-plus-and-type = (refl, refl)
-
--- 7: the value ends inside "é"
--- <A:1>é<EOR>
-torn : Reads (60 ∷ 65 ∷ 58 ∷ 49 ∷ 62 ∷ 195 ∷ 169 ∷ 60 ∷ 69 ∷ 79 ∷ 82 ∷ 62 ∷ []) (Refused (NonUtf8 1 1)) (0 ∷ 0 ∷ 0 ∷ 0 ∷ 0 ∷ 0 ∷ 0 ∷ 0 ∷ 0 ∷ 0 ∷ 0 ∷ 0 ∷ [])
-unfolding lead ends other run space1 space2 space3 space80 spaceLen spaceBack width trimStart trimEnd trimmed charLen longChar second3 second4 validUpTo raised sameRaised digitsAfter digitsOf leads unsignedOf ofText kindOf colonAt nameAt nameLength namePlace nameOf lengthAfter valueOf byKind tagOf closedAt openAt tagAt rowName readTags readText answerTo tableAfter
-torn = (refl, refl)
-
--- 6: 18,446,744,073,709,551,615 bytes wanted, 1 left
--- <A:18446744073709551615>x
-largest-length : Reads (60 ∷ 65 ∷ 58 ∷ 49 ∷ 56 ∷ 52 ∷ 52 ∷ 54 ∷ 55 ∷ 52 ∷ 52 ∷ 48 ∷ 55 ∷ 51 ∷ 55 ∷ 48 ∷ 57 ∷ 53 ∷ 53 ∷ 49 ∷ 54 ∷ 49 ∷ 53 ∷ 62 ∷ 120 ∷ []) (Refused (TruncatedValue 1 1 18446744073709551615 1)) (0 ∷ 0 ∷ 0 ∷ 0 ∷ 0 ∷ 0 ∷ 0 ∷ 0 ∷ 0 ∷ 0 ∷ 0 ∷ 0 ∷ [])
-unfolding lead ends other run space1 space2 space3 space80 spaceLen spaceBack width trimStart trimEnd trimmed charLen longChar second3 second4 validUpTo raised sameRaised digitsAfter digitsOf leads unsignedOf ofText kindOf colonAt nameAt nameLength namePlace nameOf lengthAfter valueOf byKind tagOf closedAt openAt tagAt rowName readTags readText answerTo tableAfter
-largest-length = (refl, refl)
-
--- 5: one more
--- <A:18446744073709551616>x
-length-too-large : Reads (60 ∷ 65 ∷ 58 ∷ 49 ∷ 56 ∷ 52 ∷ 52 ∷ 54 ∷ 55 ∷ 52 ∷ 52 ∷ 48 ∷ 55 ∷ 51 ∷ 55 ∷ 48 ∷ 57 ∷ 53 ∷ 53 ∷ 49 ∷ 54 ∷ 49 ∷ 54 ∷ 62 ∷ 120 ∷ []) (Refused (BadLength 1 1)) (0 ∷ 0 ∷ 0 ∷ 0 ∷ 0 ∷ 0 ∷ 0 ∷ 0 ∷ 0 ∷ 0 ∷ 0 ∷ 0 ∷ [])
-unfolding lead ends other run space1 space2 space3 space80 spaceLen spaceBack width trimStart trimEnd trimmed charLen longChar second3 second4 validUpTo raised sameRaised digitsAfter digitsOf leads unsignedOf ofText kindOf colonAt nameAt nameLength namePlace nameOf lengthAfter valueOf byKind tagOf closedAt openAt tagAt rowName readTags readText answerTo tableAfter
-length-too-large = (refl, refl)
 
 -- 4 and 3
 -- <A>x
