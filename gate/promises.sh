@@ -2,7 +2,8 @@
 # docs/PROMISES.md beside the sources: `gate/promises.sh [ROOT]`. It fails, with a line each, where
 #   a public function has no row, or no `ensures`; an exported one has a `requires`, or fewer than two must-fail edits;
 #   a row stands twice, or names a call, a file, a definition, an edit or a theorem that is not there;
-#   a call is not determined by a theorem `CALL-once`, or `CALL-TABLE-once` for each table that is lent.
+#   a call is not determined by a theorem `CALL-once`, or `CALL-TABLE-once` for each table that is lent;
+#   docs/DECISIONS.md names an edit that is not there.
 # The tests' own crates have no rows. Helpers with fewer than two edits are told, and do not fail.
 set -u
 cd "${1:-$(dirname "$0")/..}" || exit 1
@@ -28,7 +29,7 @@ function last_of(call,    n, part) { n = split(call, part, "::"); return part[n]
 
 # ---- the sources: every function, and what the public ones promise
 FILENAME ~ /\.rt$/ {
-    if (FNR == 1) { split(FILENAME, part, "/"); crate = part[2]; module = part[4]; sub(/\.rt$/, "", module); type = ""; head = "" }
+    if (FNR == 1) { split(FILENAME, part, "/"); crate = part[2]; is_crate[crate] = 1; module = part[4]; sub(/\.rt$/, "", module); type = ""; head = "" }
     if ($1 == "impl") type = $2 "::"
     if ($0 == "}") type = ""
     if ($0 ~ /^ *(pub )?(extern "C" )?fn /) {
@@ -58,7 +59,14 @@ FILENAME ~ /Determined\.antt$/ {
     next
 }
 
-# ---- the page
+# ---- the edits that the page of decisions names
+FILENAME ~ /DECISIONS\.md$/ {
+    n = split($0, word, "`")
+    for (k = 2; k <= n; k += 2) if (word[k] ~ /^[a-z0-9_]+\/[a-z0-9_]+$/) decided[word[k]] = 1
+    next
+}
+
+# ---- the page of promises
 /^## / { part_of_page = $2 }
 part_of_page == "Theorems" && /^\|/ { theorems[++theorem_rows] = $0; next }
 part_of_page == "What" && /^\| `/ { split($0, cell, "`"); open_row[cell[2]] = 1; next }
@@ -112,6 +120,10 @@ END {
             if (!found) fail(call ": no definition " name_of[k] " in" files)
         }
     }
+    for (name in decided) {
+        split(name, part, "/")
+        if ((part[1] in is_crate) && !(name in edit)) fail("docs/DECISIONS.md: no edit " name)
+    }
     for (call in open_row) if (!(call in known)) fail(call ": left open, and no such call")
     for (i = 1; i <= theorem_rows; i++) {
         split(theorems[i], cell, / *\| */); n = split(cell[3], word, "`"); file = ""
@@ -124,4 +136,4 @@ END {
     if (few != "") print "note: helpers with fewer than two edits:" few
     print "promises: " passed + 0 " passed, " failed + 0 " failed"
     exit failed > 0 || passed + 0 == 0
-}' - crates/*/src/*.rt crates/*/proofs/Determined.antt docs/PROMISES.md
+}' - crates/*/src/*.rt crates/*/proofs/Determined.antt docs/DECISIONS.md docs/PROMISES.md
