@@ -12,7 +12,6 @@ pub fn run(run: &mut Run) {
     run.group("dedupe/days", days);
     run.group("dedupe/times", times);
     run.group("dedupe/malformed", malformed);
-    run.group("dedupe/looser", looser);
     run.group("dedupe/windows", windows);
     run.group("dedupe/keys", keys);
     run.group("dedupe/refused", refused);
@@ -81,20 +80,6 @@ fn malformed(g: &mut Group) {
             true => compare(g, &date, &time),
             false => g.same((&*date, &*time), ours(date.as_bytes(), time.as_bytes()), (0, None)),
         }
-    }
-}
-
-/// Where chrono is looser: what it takes each for, and that it names no moment here.
-fn looser(g: &mut Group) {
-    for (date, time, taken) in [
-        ("2026031", "1200", "20260311 200000"),
-        ("2026 0301", "1200", "20260301 120000"),
-        ("20260301", "120060", "20260301 120059"),
-    ] {
-        let (day, clock) = taken.split_once(' ').expect("two texts");
-        let second = u64::from(time.ends_with("60"));
-        let ours = ours(date.as_bytes(), time.as_bytes());
-        g.same((date, time), (ours, theirs(date, time)), ((0, None), theirs(day, clock).map(|at| at + second)));
     }
 }
 

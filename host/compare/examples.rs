@@ -21,7 +21,7 @@ pub fn run(run: &mut Run) {
 }
 
 /// The fields of each record, or a refusal's number, with the name that comes with it, the length wanted and the bytes left.
-type Said = Result<Vec<Vec<(String, String)>>, (u32, String, u64, u64)>;
+pub type Said = Result<Vec<Vec<(String, String)>>, (u32, String, u64, u64)>;
 
 fn reading(g: &mut Group) {
     let one = |name: &str, value: &str| vec![(name.to_string(), value.to_string())];
@@ -47,7 +47,7 @@ fn reading(g: &mut Group) {
     }
 }
 
-fn ours(text: &str) -> Said {
+pub fn ours(text: &str) -> Said {
     let mut table = [0; 5 * 256];
     let read = sys::read(text.as_bytes(), &mut table);
     let part = |place: usize, length: usize| text[place..place + length].to_string();
@@ -63,7 +63,7 @@ fn ours(text: &str) -> Said {
 }
 
 #[cfg(original)]
-fn theirs(text: &str) -> Said {
+pub fn theirs(text: &str) -> Said {
     use adif::AdifError::*;
     adif::parse_adif(text)
         .map(|records| records.into_iter().map(|record| record.into_iter().collect()).collect())

@@ -7,6 +7,8 @@
 mod contacts;
 #[cfg(original)]
 mod dedupe;
+#[cfg(original)]
+mod differences;
 mod examples;
 mod files;
 mod frequency;
@@ -68,6 +70,8 @@ fn compare(mut run: Run, folder: &Path, samples: &Path) -> ExitCode {
     dedupe::run(&mut run);
     #[cfg(original)]
     plan::run(&mut run);
+    #[cfg(original)]
+    differences::run(&mut run);
     #[cfg(not(original))]
     run.left_out("the original's sources are not at hand (RIGFLOW_SRC): compared with std and the vectors alone");
     run.finish()
