@@ -1,6 +1,6 @@
 #!/bin/sh
-# The gate: the layout of the sources, the page of promises, every proof, must-fail edit and program, the samples, and the library
-# beside Rust's std and the original. Each part runs whatever the others said. The last line is `N passed, M failed`.
+# The gate: the layout of the sources, every proof, must-fail edit and program, the samples, and the library beside Rust's
+# std and the original. Each part runs whatever the others said. The last line is `N passed, M failed`.
 set -u
 # a prover waits where others of its level or batch still run: one more than there are processors keeps all of them busy
 export RT_JOBS="${RT_JOBS:-$(($(nproc) + 1))}"

@@ -3,6 +3,7 @@
 #   host/host.sh library          target/staticlib/liboxbreathe.a
 #   host/host.sh compare [full]   the library's answers against std's and the original's, group by group
 #   host/host.sh bench            instructions of both between marks, one table; on x86-64 times as well
+#   host/host.sh stack            the stack that each exported call takes
 #   host/host.sh record [DIR]     the answers of std and the original as vectors, into DIR (else where they are kept)
 # RIGFLOW_SRC: the original's sources. OXBREATHE_CACHE: where fetched packages stay. OXBREATHE_LIB: a folder with
 # a liboxbreathe.a to use instead of the one that rt builds. SEED and ONLY: see compare/main.rs.
@@ -234,6 +235,12 @@ bench() {
     esac
 }
 
+# Of the code for x86-64, on either kind of machine.
+stack() {
+    build bench
+    $run "$to/bench" stack
+}
+
 mkdir -p "$cache" "$out"
 export RUST_BACKTRACE=0
 case ${1:-} in
@@ -249,12 +256,13 @@ library)
     staticlib
     ;;
 bench) bench ;;
+stack) stack ;;
 record)
     mkdir -p "${2:-$vectors}" "${2:-$samples}"
     compare record "${2:-$vectors}" "${2:-$samples}"
     ;;
 *)
-    sed -n '3,6s/^#   //p' "$0"
+    sed -n '3,7s/^#   //p' "$0"
     exit 2
     ;;
 esac
