@@ -37,6 +37,10 @@ part promises gate/promises.sh
 # shellcheck disable=SC2046
 count $(told 'promises: \([0-9]*\) passed, \([0-9]*\) failed')
 
+part layers gate/layers.sh
+# shellcheck disable=SC2046
+count $(told 'layers: \([0-9]*\) passed, \([0-9]*\) failed')
+
 part proofs rt ci
 # shellcheck disable=SC2046
 count $(told '\([0-9]*\) passed, \([0-9]*\) failed')
