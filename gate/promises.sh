@@ -1,7 +1,7 @@
 #!/bin/sh
 # docs/PROMISES.md beside the sources: `gate/promises.sh [ROOT]`. It fails, with a line each, where
 #   a public function has no row, or no `ensures`; an exported one has a `requires`, or fewer than two must-fail edits;
-#   a row stands twice, or names a call, a file, a definition, an edit or a theorem that is not there;
+#   a row stands twice, names a call, a file, a definition, an edit or a theorem that is not there, or is wrong in whether the call asks;
 #   a call is not determined by a theorem `CALL-once`, or `CALL-TABLE-once` for each table that is lent;
 #   docs/DECISIONS.md names an edit that is not there.
 # The tests' own crates have no rows. Helpers with fewer than two edits are told, and do not fail.
@@ -76,7 +76,7 @@ part_of_page == "What" && /^\| `/ { split($0, cell, "`"); open_row[cell[2]] = 1;
     call = cell[2]; gsub(/`/, "", call)
     if (call in definition) fail(call ": stands twice")
     definition[call] = cell[4]; edits[call] = cell[6]; row[++rows] = call
-    promise[call] = cell[3]
+    promise[call] = cell[3]; asks[call] = cell[5] ~ /^asks: /
 }
 
 END {
@@ -86,6 +86,7 @@ END {
         if (!(call in definition)) fail(call ": no row")
         if (!(call in ensures)) fail(call ": no ensures")
         if ((call in exported) && (call in requires)) fail(call ": exported, and requires")
+        if ((call in definition) && asks[call] != (call in requires)) fail(call ": requires " (asks[call] ? "nothing" : "something") ", and its row says otherwise")
         # determined
         name = last_of(call); stem = name; gsub(/_/, "-", stem)
         have = 0; n = split(once[crate], theorem, " ")
