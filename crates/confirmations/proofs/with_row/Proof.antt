@@ -14,6 +14,9 @@ name-of-requires c κs = search needs
 byte-requires : tie.Need-byte-requires
 byte-requires c κs = search needs
 
+byte-requires-2 : tie.Need-byte-requires-2
+byte-requires-2 c κs = search needs
+
 is-telling-requires : tie.Need-is-telling-requires
 is-telling-requires c κs = search needs
 
@@ -35,6 +38,7 @@ with-row-spec =
     (tie.spec
     name-of-requires
     byte-requires
+    byte-requires-2
     is-telling-requires
     returns
     value-at-requires
