@@ -100,10 +100,10 @@ module _ (name : List ℕ) (a c : ℕ) (ea : a ≡ getD name 0 0) (ec : c ≡ ge
 
 -- a row that is passed over, and one that is not
 module _ (text : List ℕ) (row : Row) (was : Heard) (name : List ℕ) (en : name ≡ nameIn text row) where
-  pub row-passed : (a c : ℕ) (t : Bool) → a ≡ getD name 0 0 → c ≡ getD name 2 0 → t ≡ telling a c → not t ≡ true → was ≡ heardWith (nameIn text row) (valueAt row) was
+  row-passed : (a c : ℕ) (t : Bool) → a ≡ getD name 0 0 → c ≡ getD name 2 0 → t ≡ telling a c → not t ≡ true → was ≡ heardWith (nameIn text row) (valueAt row) was
   row-passed a c t ea ec et h = quiet name a c ea ec t et h (valueAt row) was ∙ ap (λ (n : List ℕ). heardWith n (valueAt row) was) en
 
-  pub row-heard : (v : Place) (r : Heard) → v ≡ valueAt row → r ≡ heardWith name v was → r ≡ heardWith (nameIn text row) (valueAt row) was
+  row-heard : (v : Place) (r : Heard) → v ≡ valueAt row → r ≡ heardWith name v was → r ≡ heardWith (nameIn text row) (valueAt row) was
   row-heard v r ev er = er ∙ rw (en, ev) refl
 
 -- ---- the rows from the last to the first
@@ -124,13 +124,22 @@ one-more : (text : List ℕ) (r : Row) (rs : List Row) → heardOf text (r ∷ r
 unfolding heardOf heardWith saidWith
 one-more text r rs = refl
 
-pub row-on : (text t : List ℕ) (first count i : ℕ) (was : Heard) (row : Row) (now : Heard) → 0 < i → i ≤ count
+row-on : (text t : List ℕ) (first count i : ℕ) (was : Heard) (row : Row) (now : Heard) → 0 < i → i ≤ count
     → was ≡ heardOf text (rowsFrom t (first + i) (count - i)) → row ≡ rowAt t (first + (i - 1)) → now ≡ heardWith (nameIn text row) (valueAt row) was
     → now ≡ heardOf text (rowsFrom t (first + (i - 1)) (count - (i - 1)))
 row-on text t first count i was row now h l ew er en =
     en
     ∙ rw (er, ew) (sym (one-more text (rowAt t (first + (i - 1))) (rowsFrom t (first + i) (count - i))))
     ∙ ap (heardOf text) (sym (row-before t first count i h l))
+
+module _ (text t : List ℕ) (first count i : ℕ) (was : Heard) (row : Row) (name : List ℕ) (h : 0 < i) (l : i ≤ count)
+    (ew : was ≡ heardOf text (rowsFrom t (first + i) (count - i))) (er : row ≡ rowAt t (first + (i - 1))) (en : name ≡ nameIn text row) where
+  pub row-silent : (a c : ℕ) (b : Bool) → a ≡ getD name 0 0 → c ≡ getD name 2 0 → b ≡ telling a c → not b ≡ true
+      → was ≡ heardOf text (rowsFrom t (first + (i - 1)) (count - (i - 1)))
+  row-silent a c b ea ec eb n = row-on text t first count i was row was h l ew er (row-passed text row was name en a c b ea ec eb n)
+
+  pub row-told : (v : Place) (r : Heard) → v ≡ valueAt row → r ≡ heardWith name v was → r ≡ heardOf text (rowsFrom t (first + (i - 1)) (count - (i - 1)))
+  row-told v r ev e = row-on text t first count i was row r h l ew er (row-heard text row was name en v r ev e)
 
 pub all-rows : (text t : List ℕ) (first count i : ℕ) (h : Heard) → i ≤ 0 → h ≡ heardOf text (rowsFrom t (first + i) (count - i)) → h ≡ heardOf text (rowsFrom t first count)
 all-rows text t first count i h z e =

@@ -117,16 +117,6 @@ fn is_telling(first: u8, third: u8) -> bool
     )
 }
 
-fn with_row(text: &[u8], row: [u32; 5], was: Heard) -> Heard
-    ensures { λ r. ⌜ r ≡ heardWith (nameIn (now (text .entry)) row) (valueAt row) was ⌝ }
-{
-    let name = rowcheck::name_of(text, row);
-    if !is_telling(text::byte(name, 0), text::byte(name, 2)) {
-        return was;
-    }
-    heard_with(name, value_at(row), was)
-}
-
 fn said_nothing() -> Said
     ensures { λ r. ⌜ r ≡ saidOf [] [] [] [] ⌝ }
 {
@@ -160,7 +150,11 @@ fn heard_in(text: &[u8], table: &[u32], first: usize, count: usize) -> Heard
     while 0 < i {
         i -= 1;
         let row = writer::row_at(table, first + i);
-        heard = with_row(text, row, heard);
+        let name = rowcheck::name_of(text, row);
+        if !is_telling(text::byte(name, 0), text::byte(name, 2)) {
+            continue;
+        }
+        heard = heard_with(name, value_at(row), heard);
     }
     heard
 }

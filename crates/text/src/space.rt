@@ -129,6 +129,15 @@ pub fn trim_end(s: &[u8]) -> usize
     0
 }
 
+fn cut(s: &[u8]) -> &[u8]
+    ensures { λ r. ⌜ now r ≡ trimmed (now (s .entry)) ⌝ }
+{
+    let a = trim_start(s);
+    let rest = &s[a..];
+    let n = trim_end(rest);
+    &rest[..n]
+}
+
 // s without the white space at both ends. Most texts have none, and two bytes tell.
 pub fn trim(s: &[u8]) -> &[u8]
     ensures { λ r. ⌜ now r ≡ trimmed (now (s .entry)) ⌝ }
@@ -136,10 +145,7 @@ pub fn trim(s: &[u8]) -> &[u8]
     if all(is_plain(byte(s, 0)), is_plain(byte_back(s, 0))) {
         return s;
     }
-    let a = trim_start(s);
-    let rest = &s[a..];
-    let n = trim_end(rest);
-    &rest[..n]
+    cut(s)
 }
 
 // s is empty or white space throughout.

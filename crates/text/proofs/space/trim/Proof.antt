@@ -1,5 +1,4 @@
-use lib.Seq.{length-take-le}
-use Rattle.text.proofs.SpaceLaws.{trim-whole, trim-part}
+use Rattle.text.proofs.SpaceLaws.{trim-whole}
 use borrow.Author.Needs.{needs}
 use Rattle.text.proofs.space.trim.Statement.{statement}
 use Rattle.text.proofs.space.trim.Tie as tie
@@ -22,26 +21,11 @@ all-requires c κs = search needs
 returns : tie.Need-returns
 returns c = search trim-whole
 
-trim-start-requires : tie.Need-trim-start-requires
-trim-start-requires c κs = search needs
-
-sub-rest : tie.Need-sub-rest
-sub-rest c = search needs
-
-part-rest-start : tie.Need-part-rest-start
-part-rest-start c = search needs
-
-part-rest-end : tie.Need-part-rest-end
-part-rest-end c = search needs
-
-trim-end-requires : tie.Need-trim-end-requires
-trim-end-requires c κs = search needs
-
-slice-aggregate-result : tie.Need-slice-aggregate-result
-slice-aggregate-result c = search (needs, length-take-le)
+cut-requires : tie.Need-cut-requires
+cut-requires c κs = search needs
 
 returns-2 : tie.Need-returns-2
-returns-2 c = search trim-part
+returns-2 c = search needs
 
 pub trim-spec : {M : Type 1} → statement M
 trim-spec =
@@ -53,10 +37,5 @@ trim-spec =
     is-plain-requires-2
     all-requires
     returns
-    trim-start-requires
-    sub-rest
-    part-rest-start
-    part-rest-end
-    trim-end-requires
-    slice-aggregate-result
+    cut-requires
     returns-2)
