@@ -52,35 +52,44 @@ pub heard-is : (name : List ℕ) (v : Place) (was : Heard) (l e q k : Said) (t a
 unfolding heardWith
 heard-is name v was l e q k t ag o oe m ol el ee eq ek et ea eo eoe em eol = rw (← el, ← ee, ← eq, ← ek, ← et, ← ea, ← eo, ← eoe, ← em, ← eol) refl
 
--- ---- a name that begins with another letter tells nothing
+-- ---- a name of other letters tells nothing
 false-of : (t : Bool) → (t ≡ true → ⊥) → t ≡ false
 false-of true h = absurd (h refl)
 false-of false h = refl
 
-unlike : (name wanted : List ℕ) → (raised (getD name 0 0) ≡ raised (getD wanted 0 0) → ⊥) → sameRaised name wanted ≡ false
+alike : (name wanted : List ℕ) → sameRaised name wanted ≡ true → (k : ℕ) → raised (getD name k 0) ≡ raised (getD wanted k 0)
 unfolding raised
-unlike name wanted h =
-    false-of (sameRaised name wanted)
-    (λ e. h (sym (List·getD-map raised name 0 0) ∙ ap (λ (l : List ℕ). getD l 0 0) (same-raised-true name wanted e) ∙ List·getD-map raised wanted 0 0))
+alike name wanted e k =
+    sym (List·getD-map raised name k 0) ∙ ap (λ (l : List ℕ). getD l k 0) (same-raised-true name wanted e) ∙ List·getD-map raised wanted k 0
 
-module _ (name : List ℕ) (b : ℕ) (eb : b ≡ getD name 0 0) (t : Bool) (et : t ≡ telling b) (h : not t ≡ true) where
-  silent : (k : ℕ) → (telling k ≡ true) → raised (getD name 0 0) ≡ raised k → ⊥
-  unfolding telling
-  silent k y e =
-      let z : telling b ≡ true = rw (eb, e) y in
-      let n : _≡_ {A = Bool} true false = sym z ∙ sym et ∙ not-true t h in
+third-of : (xs : List ℕ) → getD (take 8 xs) 2 0 ≡ getD xs 2 0
+third-of [] = refl
+third-of (x ∷ []) = refl
+third-of (x ∷ y ∷ []) = refl
+third-of (x ∷ y ∷ z ∷ xs) = refl
+
+first-of : (xs : List ℕ) → getD (take 8 xs) 0 0 ≡ getD xs 0 0
+first-of [] = refl
+first-of (x ∷ xs) = refl
+
+module _ (name : List ℕ) (a c : ℕ) (ea : a ≡ getD name 0 0) (ec : c ≡ getD name 2 0) (t : Bool) (et : t ≡ telling a c) (h : not t ≡ true) where
+  silent : telling (getD name 0 0) (getD name 2 0) ≡ true → ⊥
+  silent y =
+      let n : _≡_ {A = Bool} true false = sym y ∙ rw (← ea, ← ec) (sym et ∙ not-true t h) in
       let o : _≡_ {A = ℕ} 0 1 = cc in
       omega arith
 
-  lacks : (wanted : List ℕ) → telling (getD wanted 0 0) ≡ true → sameRaised name wanted ≡ false
-  lacks wanted y = unlike name wanted (silent (getD wanted 0 0) y)
+  lacks : (wanted : List ℕ) → telling (getD wanted 0 0) (getD wanted 2 0) ≡ true → sameRaised name wanted ≡ false
+  unfolding telling
+  lacks wanted y = false-of (sameRaised name wanted) (λ e. silent (rw (alike name wanted e 0, alike name wanted e 2) y))
 
-  first-of : (xs : List ℕ) → getD (take 8 xs) 0 0 ≡ getD xs 0 0
-  first-of [] = refl
-  first-of (x ∷ xs) = refl
-
-  lacks-front : (wanted : List ℕ) → telling (getD wanted 0 0) ≡ true → sameRaised (take 8 name) wanted ≡ false
-  lacks-front wanted y = unlike (take 8 name) wanted (λ e. silent (getD wanted 0 0) y (sym (ap raised (first-of name)) ∙ e))
+  lacks-front : (wanted : List ℕ) → telling (getD wanted 0 0) (getD wanted 2 0) ≡ true → sameRaised (take 8 name) wanted ≡ false
+  unfolding telling
+  lacks-front wanted y =
+      false-of (sameRaised (take 8 name) wanted)
+      (λ e.
+      silent
+      (rw (sym (ap raised (first-of name)) ∙ alike (take 8 name) wanted e 0, sym (ap raised (third-of name)) ∙ alike (take 8 name) wanted e 2) y))
 
   pub quiet : (v : Place) (was : Heard) → was ≡ heardWith name v was
   unfolding heardWith saidWith telling raised
@@ -91,10 +100,10 @@ module _ (name : List ℕ) (b : ℕ) (eb : b ≡ getD name 0 0) (t : Bool) (et :
 
 -- a row that is passed over, and one that is not
 module _ (text : List ℕ) (row : Row) (was : Heard) (name : List ℕ) (en : name ≡ nameIn text row) where
-  pub row-passed : (b : ℕ) (t : Bool) → b ≡ getD name 0 0 → t ≡ telling b → not t ≡ true → was ≡ heardWith (nameIn text row) (valueAt row) was
-  row-passed b t eb et h = quiet name b eb t et h (valueAt row) was ∙ ap (λ (n : List ℕ). heardWith n (valueAt row) was) en
+  row-passed : (a c : ℕ) (t : Bool) → a ≡ getD name 0 0 → c ≡ getD name 2 0 → t ≡ telling a c → not t ≡ true → was ≡ heardWith (nameIn text row) (valueAt row) was
+  row-passed a c t ea ec et h = quiet name a c ea ec t et h (valueAt row) was ∙ ap (λ (n : List ℕ). heardWith n (valueAt row) was) en
 
-  pub row-heard : (v : Place) (r : Heard) → v ≡ valueAt row → r ≡ heardWith name v was → r ≡ heardWith (nameIn text row) (valueAt row) was
+  row-heard : (v : Place) (r : Heard) → v ≡ valueAt row → r ≡ heardWith name v was → r ≡ heardWith (nameIn text row) (valueAt row) was
   row-heard v r ev er = er ∙ rw (en, ev) refl
 
 -- ---- the rows from the last to the first
@@ -115,13 +124,22 @@ one-more : (text : List ℕ) (r : Row) (rs : List Row) → heardOf text (r ∷ r
 unfolding heardOf heardWith saidWith
 one-more text r rs = refl
 
-pub row-on : (text t : List ℕ) (first count i : ℕ) (was : Heard) (row : Row) (now : Heard) → 0 < i → i ≤ count
+row-on : (text t : List ℕ) (first count i : ℕ) (was : Heard) (row : Row) (now : Heard) → 0 < i → i ≤ count
     → was ≡ heardOf text (rowsFrom t (first + i) (count - i)) → row ≡ rowAt t (first + (i - 1)) → now ≡ heardWith (nameIn text row) (valueAt row) was
     → now ≡ heardOf text (rowsFrom t (first + (i - 1)) (count - (i - 1)))
 row-on text t first count i was row now h l ew er en =
     en
     ∙ rw (er, ew) (sym (one-more text (rowAt t (first + (i - 1))) (rowsFrom t (first + i) (count - i))))
     ∙ ap (heardOf text) (sym (row-before t first count i h l))
+
+module _ (text t : List ℕ) (first count i : ℕ) (was : Heard) (row : Row) (name : List ℕ) (h : 0 < i) (l : i ≤ count)
+    (ew : was ≡ heardOf text (rowsFrom t (first + i) (count - i))) (er : row ≡ rowAt t (first + (i - 1))) (en : name ≡ nameIn text row) where
+  pub row-silent : (a c : ℕ) (b : Bool) → a ≡ getD name 0 0 → c ≡ getD name 2 0 → b ≡ telling a c → not b ≡ true
+      → was ≡ heardOf text (rowsFrom t (first + (i - 1)) (count - (i - 1)))
+  row-silent a c b ea ec eb n = row-on text t first count i was row was h l ew er (row-passed text row was name en a c b ea ec eb n)
+
+  pub row-told : (v : Place) (r : Heard) → v ≡ valueAt row → r ≡ heardWith name v was → r ≡ heardOf text (rowsFrom t (first + (i - 1)) (count - (i - 1)))
+  row-told v r ev e = row-on text t first count i was row r h l ew er (row-heard text row was name en v r ev e)
 
 pub all-rows : (text t : List ℕ) (first count i : ℕ) (h : Heard) → i ≤ 0 → h ≡ heardOf text (rowsFrom t (first + i) (count - i)) → h ≡ heardOf text (rowsFrom t first count)
 all-rows text t first count i h z e =

@@ -45,9 +45,11 @@ heardWith name v h = record {
   «of_lotw» = either (begins (ascii "APP_LOTW") name) (h .«of_lotw»);
 }
 
--- the letters with which such names begin: A, E, L, Q
-unfoldable pub telling : ℕ → Bool
-telling b = either (eqb (raised b) 65) (either (eqb (raised b) 69) (either (eqb (raised b) 76) (eqb (raised b) 81)))
+-- the first and the third letter of such names: A, E, L or Q, and L, P, S or T
+unfoldable pub telling : ℕ → ℕ → Bool
+telling a c =
+    both (either (eqb (raised a) 65) (either (eqb (raised a) 69) (either (eqb (raised a) 76) (eqb (raised a) 81))))
+    (either (eqb (raised c) 76) (either (eqb (raised c) 80) (either (eqb (raised c) 83) (eqb (raised c) 84))))
 
 -- ---- the answers by what is kept
 unfoldable pub answerBy : List ℕ → Bool → ℕ → Place → Place → Answer

@@ -99,25 +99,22 @@ fn heard_with(name: &[u8], value: Place, was: Heard) -> Heard
     }
 }
 
-// Whether such a name begins with the letter: most names do not, and are passed over.
-fn is_telling(b: u8) -> bool
-    ensures { λ r. ⌜ r ≡ telling b ⌝ }
+// Whether such a name has these as its first and its third letter: most names do not, and are passed over.
+fn is_telling(first: u8, third: u8) -> bool
+    ensures { λ r. ⌜ r ≡ telling first third ⌝ }
 {
-    let u = letters::raise(b);
-    text::any(
-        u == b'A',
-        text::any(u == b'E', text::any(u == b'L', u == b'Q')),
+    let u = letters::raise(first);
+    let v = letters::raise(third);
+    text::all(
+        text::any(
+            u == b'A',
+            text::any(u == b'E', text::any(u == b'L', u == b'Q')),
+        ),
+        text::any(
+            v == b'L',
+            text::any(v == b'P', text::any(v == b'S', v == b'T')),
+        ),
     )
-}
-
-fn with_row(text: &[u8], row: [u32; 5], was: Heard) -> Heard
-    ensures { λ r. ⌜ r ≡ heardWith (nameIn (now (text .entry)) row) (valueAt row) was ⌝ }
-{
-    let name = rowcheck::name_of(text, row);
-    if !is_telling(text::byte(name, 0)) {
-        return was;
-    }
-    heard_with(name, value_at(row), was)
 }
 
 fn said_nothing() -> Said
@@ -153,7 +150,11 @@ fn heard_in(text: &[u8], table: &[u32], first: usize, count: usize) -> Heard
     while 0 < i {
         i -= 1;
         let row = writer::row_at(table, first + i);
-        heard = with_row(text, row, heard);
+        let name = rowcheck::name_of(text, row);
+        if !is_telling(text::byte(name, 0), text::byte(name, 2)) {
+            continue;
+        }
+        heard = heard_with(name, value_at(row), heard);
     }
     heard
 }

@@ -6,12 +6,12 @@ use Prim.Native.Nat.{ℕ, zero, suc, _+_, _-_, _*_, _≤_, _<_}
 use native.Mathlib.Numerals.{add-one}
 use native.Mathlib.Omega.{arith}
 use lib.ListN.{length, getD, take, drop, length-drop, drop-of-length-le}
-use lib.Seq.{drop-cons, take-all, take-nil}
+use lib.Seq.{drop-cons, take-all, take-nil, getD-drop, getD-take}
 use lib.Dec.{eqb, leb, ltb}
 use borrow.Author.Tests.{not-true, not-false, le-leb, lt-leb, eq-eqb, ne-eqb}
 use Rattle.text.specs.Pick.{pick, both, within}
 use Rattle.decimal.specs.Decimal.{allDigits}
-use Rattle.contacts.specs.Contacts.{sound, soundHead, soundTexts}
+use Rattle.contacts.specs.Contacts.{isDate, isTime, sound, soundHead, soundTexts}
 use Rattle.contacts.specs.Lists.{numberAt, textAt, after, callAt, dateAt, timeAt, bandAt, modeAt, endAt, idAt, servicesAt, contactAt, fits, goodAt}
 
 -- ---- digits
@@ -27,6 +27,28 @@ module _ (s : List ℕ) (i : ℕ) (h : i < length s) (t : Bool) (e : t ≡ withi
 
 pub digits-end : (s : List ℕ) (i : ℕ) → length s ≤ i → allDigits (drop i s) ≡ allDigits s → true ≡ allDigits s
 digits-end s i h q = rw (drop-of-length-le s h) at q
+
+module _ (d : List ℕ) where
+  pub no-date : (length d ≡ 8 → ⊥) → false ≡ isDate d
+  unfolding isDate
+  no-date n = rw (ne-eqb (length d) 8 n) refl
+
+  pub date-is : length d ≡ 8 → (t : Bool) → t ≡ allDigits d → t ≡ isDate d
+  unfolding isDate
+  date-is e t q = q ∙ rw (eq-eqb (length d) 8 e) refl
+
+  pub time-of-4 : length d ≡ 4 → (t : Bool) → t ≡ allDigits d → t ≡ isTime d
+  unfolding isTime
+  time-of-4 e t q = q ∙ rw (eq-eqb (length d) 4 e) refl
+
+  module _ (f : length d ≡ 4 → ⊥) where
+    pub time-of-6 : length d ≡ 6 → (t : Bool) → t ≡ allDigits d → t ≡ isTime d
+    unfolding isTime
+    time-of-6 e t q = q ∙ rw (ne-eqb (length d) 4 f, eq-eqb (length d) 6 e) refl
+
+    pub no-time : (length d ≡ 6 → ⊥) → false ≡ isTime d
+    unfolding isTime
+    no-time n = rw (ne-eqb (length d) 4 f, ne-eqb (length d) 6 n) refl
 
 -- ---- numbers
 pub two-is : (s : List ℕ) (at a b x y : ℕ) → x ≡ getD s at 0 → a ≡ x → y ≡ getD s (at + 1) 0 → b ≡ y → a * 256 + b ≡ numberAt s at 2
@@ -47,17 +69,33 @@ four-is s at a b ea eb =
     let q = shift s at 1 in
     omega (arith, ea, eb, p, q)
 
-shift4 : (s : List ℕ) (at k : ℕ) → getD s (at + 6 + k) 0 ≡ getD s (at + 2 + (4 + k)) 0
-shift4 s at k = let z : at + 6 + k ≡ at + 2 + (4 + k) = omega arith in rw z refl
+shift4 : (s : List ℕ) (at k : ℕ) → getD s (at + 4 + k) 0 ≡ getD s (at + (4 + k)) 0
+shift4 s at k = let z : at + 4 + k ≡ at + (4 + k) = omega arith in rw z refl
 
-pub id-is : (s : List ℕ) (at a b : ℕ) → a ≡ numberAt s (at + 2) 4 → b ≡ numberAt s (at + 6) 4 → a * 4294967296 + b ≡ idAt s at
-unfolding numberAt idAt
-id-is s at a b ea eb =
+pub eight-is : (s : List ℕ) (at a b : ℕ) → a ≡ numberAt s at 4 → b ≡ numberAt s (at + 4) 4 → a * 4294967296 + b ≡ numberAt s at 8
+unfolding numberAt
+eight-is s at a b ea eb =
     let p = shift4 s at 0 in
     let q = shift4 s at 1 in
     let u = shift4 s at 2 in
     let v = shift4 s at 3 in
     omega (arith, ea, eb, p, q, u, v)
+
+pub id-far : (s : List ℕ) (at n : ℕ) → n ≡ numberAt s (at + 2) 8 → n ≡ idAt s at
+unfolding idAt
+id-far s at n e = e
+
+-- a number of a part is that of the whole, as far as the part goes
+number-part : (s : List ℕ) (from n k : ℕ) → k ≤ n → numberAt (take n (drop from s)) 0 k ≡ numberAt s from k
+unfolding numberAt
+number-part s from n zero h = refl
+number-part s from n (suc k) h =
+    let z : 0 + k ≡ k = omega arith in
+    rw (number-part s from n k (omega arith), z, getD-take n (drop from s) k 0 (omega arith), getD-drop) refl
+
+pub id-near : (s : List ℕ) (at n : ℕ) → n ≡ numberAt (take (at + 10 - (at + 2)) (drop (at + 2) s)) 0 8 → n ≡ idAt s at
+unfolding idAt
+id-near s at n e = e ∙ number-part s (at + 2) (at + 10 - (at + 2)) 8 (omega arith)
 
 -- ---- texts
 pub text-out : (s : List ℕ) (p : ℕ) → length s ≤ p → [] ≡ textAt s p

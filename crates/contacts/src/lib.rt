@@ -53,13 +53,22 @@ fn is_plain(t: &[u8]) -> bool
 fn is_date(d: &[u8]) -> bool
     ensures { λ r. ⌜ r ≡ isDate (now (d .entry)) ⌝ }
 {
-    text::all(d.len() == 8, all_digits(d))
+    if d.len() != 8 {
+        return false;
+    }
+    all_digits(d)
 }
 
 fn is_time(t: &[u8]) -> bool
     ensures { λ r. ⌜ r ≡ isTime (now (t .entry)) ⌝ }
 {
-    text::all(text::any(t.len() == 4, t.len() == 6), all_digits(t))
+    if t.len() == 4 {
+        return all_digits(t);
+    }
+    if t.len() == 6 {
+        return all_digits(t);
+    }
+    false
 }
 
 // An id from 1 on, and no unknown service.
@@ -91,7 +100,7 @@ fn wide(b: u8) -> u64
     b as u64
 }
 
-// The number of the two bytes, and of the four, from `at` on.
+// The number of the two bytes, of the four and of the eight, from `at` on.
 fn two_at(s: &[u8], at: usize) -> u64
     requires { ⌜ at ≤ 16780000 ⌝ }
     ensures { λ r. ⌜ r ≡ numberAt (now (s .entry)) at 2 ⌝ }
@@ -108,11 +117,24 @@ fn four_at(s: &[u8], at: usize) -> u64
     two_at(s, at) * 65536 + two_at(s, at + 2)
 }
 
+fn eight_at(s: &[u8], at: usize) -> u64
+    requires { ⌜ at ≤ 16778000 ⌝ }
+    ensures { λ r. ⌜ r ≡ numberAt (now (s .entry)) at 8 ⌝ }
+{
+    four_at(s, at) * 4294967296 + four_at(s, at + 4)
+}
+
+// Of a whole entry one test serves all eight bytes.
 pub fn id_at(s: &[u8], at: usize) -> u64
     requires { ⌜ at ≤ 16777216 ⌝ }
     ensures { λ r. ⌜ r ≡ idAt (now (s .entry)) at ⌝ }
 {
-    four_at(s, at + 2) * 4294967296 + four_at(s, at + 6)
+    let from = at + 2;
+    let to = at + 10;
+    if s.len() < to {
+        return eight_at(s, from);
+    }
+    eight_at(&s[from..to], 0)
 }
 
 // The text whose length byte is at p.

@@ -3,7 +3,10 @@ ghost use mathlib.Core.Path.{_≡_};
 ghost use Prim.Native.Nat.{_≤_};
 ghost use lib.ListN.{length, take, drop};
 ghost use Rattle.tables.specs.Place.{absent, stands, inCapitals, bandEntry, modeEntry, inText, part, nameOf};
-ghost use Rattle.tables.specs.Place.{tidy, isAbsent, isEmpty, orElse};
+ghost use Rattle.tables.specs.Place.{tidy, isAbsent, isEmpty, orElse, spelled, orEmpty};
+ghost use Rattle.tables.specs.Table.{entry};
+ghost use Rattle.tables.specs.Bands.{bandNames};
+ghost use Rattle.tables.specs.Modes.{modeNames};
 use super::Name;
 use super::Place;
 use super::bands;
@@ -128,16 +131,29 @@ pub fn tidy(text: &[u8], p: Place) -> Place
     }
 }
 
+// The name of entry k of the bands, and of the modes. Each lays its table out only where it is called.
+fn band_name(k: usize) -> Name
+    ensures { λ r. ⌜ r ≡ spelled (orEmpty (entry bandNames k)) ⌝ }
+{
+    name_in(&bands::NAMES, &bands::LENS, k)
+}
+
+fn mode_name(k: usize) -> Name
+    ensures { λ r. ⌜ r ≡ spelled (orEmpty (entry modeNames k)) ⌝ }
+{
+    name_in(&modes::NAMES, &modes::LENS, k)
+}
+
 // The name of an entry.
 pub fn name_of(p: Place) -> Name
     ensures { λ r. ⌜ r ≡ nameOf p ⌝ }
 {
     let k = p.start as usize;
     if p.kind == 3 {
-        return name_in(&bands::NAMES, &bands::LENS, k);
+        return band_name(k);
     }
     if p.kind == 4 {
-        return name_in(&modes::NAMES, &modes::LENS, k);
+        return mode_name(k);
     }
     no_name()
 }

@@ -17,12 +17,16 @@ use Rattle.text.specs.Blocks.{Passed, UpTo}
 use Rattle.text.proofs.Walks.{here, on, out}
 use Rattle.text.proofs.Utf8Laws.{ascii}
 
+-- the walk passes a byte of ASCII
+pub ascii-on : (s : List ℕ) (i a : ℕ) → i < length s → getD s i 0 ≤ 0x7F → ends charLen s i ≡ a → ends charLen s (i + 1) ≡ a
+ascii-on s i a h l q = on charLen s i 1 a (ascii s i l) (λ e. suc-ne-zero 0 e) (omega arith) q
+
 -- n bytes of ASCII from i on: the walk passes them
 ascii-run : (s : List ℕ) (a n i : ℕ) → i + n ≤ length s → ((k : ℕ) → k < n → getD s (i + k) 0 ≤ 0x7F) → ends charLen s i ≡ a → ends charLen s (i + n) ≡ a
 ascii-run s a zero i h f q = subst (λ (m : ℕ). ends charLen s m ≡ a) (sym (add-zero i)) q
 ascii-run s a (suc n) i h f q =
     let first : getD s i 0 ≤ 0x7F = subst (λ (m : ℕ). getD s m 0 ≤ 0x7F) (add-zero i) (f 0 (omega arith)) in
-    let step : ends charLen s (i + 1) ≡ a = on charLen s i 1 a (ascii s i first) (λ e. suc-ne-zero 0 e) (omega arith) q in
+    let step : ends charLen s (i + 1) ≡ a = ascii-on s i a (omega arith) first q in
     let place : i + 1 + n ≡ i + suc n = omega arith in
     subst (λ (m : ℕ). ends charLen s m ≡ a) place
     (ascii-run s a n (i + 1) (omega arith)

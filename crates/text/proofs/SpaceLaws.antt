@@ -191,6 +191,20 @@ pub trim-part : (s : List ℕ) (a n : ℕ) → a ≡ trimStart s → n ≡ trimE
 unfolding trimmed
 trim-part s a n e f = simp (f, rest, e)
 
+starts : (s : List ℕ) → 0 ≡ spaceLen (drop 0 s) → 0 ≡ trimStart s
+unfolding trimStart ends
+starts s e = here spaceLen s 0 0 (lead spaceLen s) e refl (simp zero-add)
+
+-- between two plain bytes nothing is trimmed
+pub trim-whole : (s : List ℕ) (x y : ℕ) (p q t : Bool) → x ≡ getD s 0 0 → y ≡ getD (reverse s) 0 0
+    → p ≡ within x 0x21 0x7F → q ≡ within y 0x21 0x7F → t ≡ both p q → t ≡ true → s ≡ trimmed s
+unfolding trimmed
+trim-whole s x y p q t ex ey ep eq et h =
+    let u : both p q ≡ true = sym et ∙ h in
+    let front : 0 ≡ trimStart s = starts s (plain-front s 0 x p ex ep (both-left p q u)) in
+    let end : length s - 0 ≡ trimEnd s = end-here s 0 0 (plain-back (reverse s) 0 y q ey eq (both-right p q u)) refl (end-start s) in
+    rw (← front, ← end) (sym (take-all (length s - 0) s (omega arith)))
+
 pub blank-is : (s : List ℕ) (a : ℕ) → a ≡ trimStart s → eqb a (length s) ≡ blank s
 unfolding blank
 blank-is s a e = rw e refl

@@ -129,14 +129,23 @@ pub fn trim_end(s: &[u8]) -> usize
     0
 }
 
-// s without the white space at both ends.
-pub fn trim(s: &[u8]) -> &[u8]
+fn cut(s: &[u8]) -> &[u8]
     ensures { λ r. ⌜ now r ≡ trimmed (now (s .entry)) ⌝ }
 {
     let a = trim_start(s);
     let rest = &s[a..];
     let n = trim_end(rest);
     &rest[..n]
+}
+
+// s without the white space at both ends. Most texts have none, and two bytes tell.
+pub fn trim(s: &[u8]) -> &[u8]
+    ensures { λ r. ⌜ now r ≡ trimmed (now (s .entry)) ⌝ }
+{
+    if all(is_plain(byte(s, 0)), is_plain(byte_back(s, 0))) {
+        return s;
+    }
+    cut(s)
 }
 
 // s is empty or white space throughout.

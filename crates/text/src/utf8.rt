@@ -89,6 +89,10 @@ fn chars_up_to(s: &[u8], from: usize, to: usize) -> usize
 {
     let mut i = from;
     while i < to {
+        if s[i] <= 0x7F {
+            i += 1;
+            continue;
+        }
         let w = char_at(s, i);
         if w == 0 {
             return i;

@@ -1,62 +1,73 @@
--- The years of the calendar come round every 400. Assumes nothing.
-use mathlib.Core.Path.{_≡_, refl, sym, ap, _∙_, subst}
+-- Leap years, and the days before a year in one sum. Assumes nothing.
+use mathlib.Core.Path.{_≡_, refl, sym}
 use mathlib.Core.Bool.{Bool, true, false}
-use Prim.Native.Nat.{ℕ, zero, suc, _+_, _-_, _*_, _/_, _%_, _≤_, _<_}
-use native.Mathlib.Nat.{add-zero}
-use native.Mathlib.Numerals.{add-one}
+use Prim.Native.Nat.{ℕ, zero, suc, _+_, _-_, _*_, _/_, _%_, _≤_}
 use native.Mathlib.Omega.{arith}
 use lib.Dec.{eqb}
-use borrow.Author.Tests.{eq-eqb, ne-eqb}
+use borrow.Author.Tests.{eqb-true, eqb-false, eq-eqb, ne-eqb}
 use Rattle.text.specs.Pick.{pick}
 use Rattle.times.specs.Calendar.{leap, yearDays, daysBeforeYear}
 
-pub leap-round : (c y : ℕ) → leap (c * 400 + y) ≡ leap y
-unfolding leap
-leap-round c y =
-    let four : (c * 400 + y) % 4 ≡ y % 4 = omega arith in
-    let hundred : (c * 400 + y) % 100 ≡ y % 100 = omega arith in
-    let turn : (c * 400 + y) % 400 ≡ y % 400 = omega arith in
-    rw (four, hundred, turn) refl
+-- a quotient goes up by one at the years that can be divided, and at no others
+up-4 : (y : ℕ) → y % 4 ≡ 0 → (y + 4) / 4 ≡ (y + 3) / 4 + 1
+up-4 y h = omega arith
 
-pub one-more : (y : ℕ) → daysBeforeYear (y + 1) ≡ daysBeforeYear y + yearDays y
-unfolding daysBeforeYear
-one-more y = rw (add-one y) refl
+on-4 : (y : ℕ) → (y % 4 ≡ 0 → ⊥) → (y + 4) / 4 ≡ (y + 3) / 4
+on-4 y h = omega arith
 
--- y years on from a turn there are as many days as in the first y years
-from-turn : (c y : ℕ) → daysBeforeYear (c * 400 + y) ≡ daysBeforeYear (c * 400) + daysBeforeYear y
-unfolding daysBeforeYear yearDays
-from-turn c zero = rw (add-zero (c * 400)) (sym (add-zero (daysBeforeYear (c * 400))))
-from-turn c (suc y) =
-    let next : c * 400 + suc y ≡ suc (c * 400 + y) = omega arith in
-    rw (next, leap-round c y, from-turn c y) (omega arith)
+up-100 : (y : ℕ) → y % 100 ≡ 0 → (y + 100) / 100 ≡ (y + 99) / 100 + 1
+up-100 y h = omega arith
 
-none : daysBeforeYear 0 ≡ 0
-unfolding daysBeforeYear
-none = refl
+on-100 : (y : ℕ) → (y % 100 ≡ 0 → ⊥) → (y + 100) / 100 ≡ (y + 99) / 100
+on-100 y h = omega arith
 
-pub turn : daysBeforeYear 400 ≡ 146097
-unfolding daysBeforeYear yearDays leap
-turn = refl
+up-400 : (y : ℕ) → y % 400 ≡ 0 → (y + 400) / 400 ≡ (y + 399) / 400 + 1
+up-400 y h = omega arith
 
-pub turns : (c : ℕ) → daysBeforeYear (c * 400) ≡ c * 146097
-turns zero = none
-turns (suc c) =
-    let next : suc c * 400 ≡ c * 400 + 400 = omega arith in
-    rw next (from-turn c 400 ∙ rw (turns c, turn) (omega arith))
+on-400 : (y : ℕ) → (y % 400 ≡ 0 → ⊥) → (y + 400) / 400 ≡ (y + 399) / 400
+on-400 y h = omega arith
 
--- what a loop over the years asks: at most 366 days a year
-year-short : (y : ℕ) → yearDays y ≤ 366
-unfolding yearDays
-year-short y = by (leap y)
+next-sum : (y : ℕ) → yearDays y + (y + 3) / 4 + (y + 399) / 400 + (y + 100) / 100 ≡ 365 + (y + 4) / 4 + (y + 400) / 400 + (y + 99) / 100
+unfolding yearDays leap
+next-sum y = by (eqb (y % 4) 0) refl (eqb (y % 100) 0) refl (eqb (y % 400) 0) refl
   where
-    by : (t : Bool) → pick t 366 365 ≤ 366
-    by true = omega arith
-    by false = omega arith
+    by :
+        (a : Bool) → eqb (y % 4) 0 ≡ a → (b : Bool) → eqb (y % 100) 0 ≡ b → (c : Bool) → eqb (y % 400) 0 ≡ c →
+        pick (pick a (pick b c true) false) 366 365 + (y + 3) / 4 + (y + 399) / 400 + (y + 100) / 100 ≡ 365 + (y + 4) / 4 + (y + 400) / 400 + (y + 99) / 100
+    by true e true f true g = rw (up-4 y (eqb-true _ _ e), up-100 y (eqb-true _ _ f), up-400 y (eqb-true _ _ g)) (omega arith)
+    by true e true f false g = rw (up-4 y (eqb-true _ _ e), up-100 y (eqb-true _ _ f), on-400 y (eqb-false _ _ g)) (omega arith)
+    by true e false f c g =
+        let hundred : y % 100 ≡ 0 → ⊥ = eqb-false _ _ f in
+        let turn : y % 400 ≡ 0 → ⊥ = λ h. hundred (omega arith) in
+        rw (up-4 y (eqb-true _ _ e), on-100 y hundred, on-400 y turn) (omega arith)
+    by false e b f c g =
+        let four : y % 4 ≡ 0 → ⊥ = eqb-false _ _ e in
+        let hundred : y % 100 ≡ 0 → ⊥ = λ h. four (omega arith) in
+        let turn : y % 400 ≡ 0 → ⊥ = λ h. four (omega arith) in
+        rw (on-4 y four, on-100 y hundred, on-400 y turn) (omega arith)
 
-pub years-short : (y : ℕ) → daysBeforeYear y ≤ y * 366
+one-year :
+    (d n y a b c a' b' c' : ℕ) → d + c ≡ y * 365 + a + b → n + a + b + c' ≡ 365 + a' + b' + c → d + n + c' ≡ suc y * 365 + a' + b'
+one-year d n y a b c a' b' c' e f = omega arith
+
+less : (d a b : ℕ) → d + a ≡ b → b - a ≡ d
+less d a b e = omega arith
+
+-- 365 days a year, and one more for each leap year: the fourth years, without the hundredth, with the four hundredth
+years-sum : (y : ℕ) → daysBeforeYear y + (y + 99) / 100 ≡ y * 365 + (y + 3) / 4 + (y + 399) / 400
 unfolding daysBeforeYear
-years-short zero = omega arith
-years-short (suc y) = omega (arith, years-short y, year-short y)
+years-sum zero = refl
+years-sum (suc y) =
+    let three : suc y + 3 ≡ y + 4 = omega arith in
+    let most : suc y + 99 ≡ y + 100 = omega arith in
+    let all : suc y + 399 ≡ y + 400 = omega arith in
+    rw (three, most, all) (one-year _ _ y _ _ _ _ _ _ (years-sum y) (next-sum y))
+
+pub years-are : (y : ℕ) → y * 365 + (y + 3) / 4 + (y + 399) / 400 - (y + 99) / 100 ≡ daysBeforeYear y
+years-are y = less _ _ _ (years-sum y)
+
+pub years-fit : (y : ℕ) → y ≤ 9999 → y * 365 + (y + 3) / 4 + (y + 399) / 400 - (y + 99) / 100 ≤ 3659634
+years-fit y h = omega arith
 
 module _ (year : ℕ) where
   pub not-fourth : (year % 4 ≡ 0 → ⊥) → false ≡ leap year
@@ -71,24 +82,3 @@ module _ (year : ℕ) where
     pub hundredth : year % 100 ≡ 0 → eqb (year % 400) 0 ≡ leap year
     unfolding leap
     hundredth h = simp (eq-eqb (year % 4) 0 f, eq-eqb (year % 100) 0 h)
-
-module _ (year : ℕ) (t : Bool) (e : t ≡ leap year) where
-  pub long-year : t ≡ true → 366 ≡ yearDays year
-  unfolding yearDays
-  long-year h = rw (← e, h) refl
-
-  pub common-year : t ≡ false → 365 ≡ yearDays year
-  unfolding yearDays
-  common-year h = rw (← e, h) refl
-
-pub next-year : (y days r : ℕ) → days ≡ daysBeforeYear y → r ≡ yearDays y → days + r ≡ daysBeforeYear (y + 1)
-next-year y days r e f = rw (e, f) (sym (one-more y))
-
-pub there : (y year days : ℕ) → y ≤ year → year ≤ y → days ≡ daysBeforeYear y → days ≡ daysBeforeYear year
-there y year days p q e = let same : y ≡ year = omega arith in rw same at e
-
-pub begun : (c : ℕ) → c * 146097 ≡ daysBeforeYear (c * 400)
-begun c = sym (turns c)
-
-pub years-fit : (y year days : ℕ) → y ≤ year → year ≤ y → days ≡ daysBeforeYear y → year ≤ 9999 → days ≤ 3659634
-years-fit y year days p q e h = omega (arith, years-short y)

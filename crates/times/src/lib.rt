@@ -3,7 +3,7 @@ ghost use mathlib.Core.Path.{_≡_};
 ghost use Prim.Native.Nat.{_+_, _*_, _≤_, _<_};
 ghost use lib.ListN.{length};
 ghost use mathlib.Core.Bool.{true};
-ghost use Rattle.times.specs.Calendar.{leap, yearDays, monthDays, daysBeforeYear, daysBeforeMonth, isDay, dayNumber};
+ghost use Rattle.times.specs.Calendar.{leap, monthDays, daysBeforeYear, daysBeforeMonth, isDay, dayNumber};
 ghost use Rattle.times.specs.Moments.{dateOf, clockOf, isClock, momentAt, momentBy, momentOf, secondsOf, hundredfold};
 ghost use Rattle.times.specs.Bounds.{Below};
 use decimal::Unsigned;
@@ -34,27 +34,13 @@ fn is_leap(year: u32) -> bool
     year % 400 == 0
 }
 
-fn days_of_year(year: u32) -> u32
-    ensures { λ r. ⌜ r ≡ yearDays year ⌝ }
-    ensures { λ r. ⌜ r ≤ 366 ⌝ }
-{
-    if is_leap(year) { 366 } else { 365 }
-}
-
-// The days before a year from 0 on: whole turns of 400 years, which have 146,097 days each, and the years after them one by one.
+// The days before a year from 0 on: 365 a year, and one more for each leap year.
 fn days_before_year(year: u32) -> u32
     requires { ⌜ year ≤ 9999 ⌝ }
     ensures { λ r. ⌜ r ≡ daysBeforeYear year ⌝ }
     ensures { λ r. ⌜ r ≤ 3659634 ⌝ }
 {
-    let turns = year / 400;
-    let mut days = turns * 146097;
-    let mut y = turns * 400;
-    while y < year {
-        days += days_of_year(y);
-        y += 1;
-    }
-    days
+    year * 365 + (year + 3) / 4 + (year + 399) / 400 - (year + 99) / 100
 }
 
 fn days_of_month(leap: bool, month: usize) -> u32

@@ -1,5 +1,5 @@
 use borrow.Author.Needs.{needs}
-use Rattle.confirmations.proofs.RowLaws.{no-rows, row-on, all-rows}
+use Rattle.confirmations.proofs.RowLaws.{no-rows, row-silent, row-told, all-rows}
 use Rattle.confirmations.specs.Heard.{heardOf}
 use mathlib.Core.Path.{_≡_}
 use Prim.Native.Nat.{_≤_, _+_, _-_}
@@ -8,7 +8,11 @@ use Rattle.writer.specs.Rows.{rowsFrom}
 use Rattle.confirmations.proofs.heard_in.Statement.{statement}
 use Rattle.confirmations.proofs.heard_in.Tie as tie
 use Rattle.confirmations.proofs.heard_nothing.Reads as heard-nothing-reads
-use Rattle.confirmations.proofs.with_row.Reads as with-row-reads
+use Rattle.confirmations.proofs.heard_with.Reads as heard-with-reads
+use Rattle.confirmations.proofs.is_telling.Reads as is-telling-reads
+use Rattle.confirmations.proofs.value_at.Reads as value-at-reads
+use Rattle.rowcheck.proofs.name_of.Reads as name-of-reads
+use Rattle.text.proofs.byte.Reads as byte-reads
 use Rattle.writer.proofs.row_at.Reads as row-at-reads
 
 abbrev Inv-loop : tie.InvT-loop
@@ -32,14 +36,46 @@ add-row-at c = search needs
 row-at-requires : tie.Need-row-at-requires Inv-loop μ-loop
 row-at-requires c κs = search needs
 
-with-row-requires : tie.Need-with-row-requires Inv-loop μ-loop
-with-row-requires c κs = search needs
+name-of-requires : tie.Need-name-of-requires Inv-loop μ-loop
+name-of-requires c κs = search needs
+
+byte-requires : tie.Need-byte-requires Inv-loop μ-loop
+byte-requires c κs = search needs
+
+byte-requires-2 : tie.Need-byte-requires-2 Inv-loop μ-loop
+byte-requires-2 c κs = search needs
+
+is-telling-requires : tie.Need-is-telling-requires Inv-loop μ-loop
+is-telling-requires c κs = search needs
 
 loop-less : tie.Need-loop-less Inv-loop μ-loop
 loop-less c = search needs
 
 loop-again : tie.Need-loop-again Inv-loop μ-loop
-loop-again c = (omega arith, search row-on)
+loop-again c = (omega arith, search row-silent)
+
+value-at-requires : tie.Need-value-at-requires Inv-loop μ-loop
+value-at-requires c κs = search needs
+
+heard-with-requires : tie.Need-heard-with-requires Inv-loop μ-loop
+heard-with-requires c κs = search needs
+
+loop-less-2 : tie.Need-loop-less-2 Inv-loop μ-loop
+loop-less-2 c = search needs
+
+loop-again-2 : tie.Need-loop-again-2 Inv-loop μ-loop
+loop-again-2 c =
+    let named = c .before .before .before .before .before .before in
+    let turn = named .before .before in (
+      omega (arith, turn .before .loop .inv .0),
+      row-told _ _ _ _ _ _ _ _ (turn .loop-test .taken) (turn .before .loop .inv .0) (turn .before .loop .inv .1)
+          (named .before .row-at .ensures)
+          (named .name-of .ensures)
+          _
+          _
+          (c .before .value-at .ensures)
+          (c .heard-with .ensures),
+    )
 
 returns : tie.Need-returns Inv-loop μ-loop
 returns c = search all-rows
@@ -55,7 +91,14 @@ heard-in-spec =
     sub-i
     add-row-at
     row-at-requires
-    with-row-requires
+    name-of-requires
+    byte-requires
+    byte-requires-2
+    is-telling-requires
     loop-less
     loop-again
+    value-at-requires
+    heard-with-requires
+    loop-less-2
+    loop-again-2
     returns)

@@ -1,19 +1,16 @@
-use Rattle.contacts.specs.Contacts.{isDate}
+use Rattle.contacts.proofs.EntryLaws.{no-date, date-is}
 use borrow.Author.Needs.{needs}
 use Rattle.contacts.proofs.is_date.Statement.{statement}
 use Rattle.contacts.proofs.is_date.Tie as tie
-use Rattle.contacts.proofs.all_digits.Reads as all-digits-reads
-use Rattle.text.proofs.all.Reads as all-reads
+
+returns : tie.Need-returns
+returns c = search no-date
 
 all-digits-requires : tie.Need-all-digits-requires
 all-digits-requires c κs = search needs
 
-all-requires : tie.Need-all-requires
-all-requires c κs = search needs
-
-returns : tie.Need-returns
-unfolding isDate
-returns c = cc
+returns-2 : tie.Need-returns-2
+returns-2 c = search date-is
 
 pub is-date-spec : {M : Type 1} → statement M
-is-date-spec = tie.close (tie.spec all-digits-requires all-requires returns)
+is-date-spec = tie.close (tie.spec returns all-digits-requires returns-2)

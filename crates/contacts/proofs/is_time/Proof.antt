@@ -1,23 +1,22 @@
-use Rattle.contacts.specs.Contacts.{isTime}
+use Rattle.contacts.proofs.EntryLaws.{time-of-4, time-of-6, no-time}
 use borrow.Author.Needs.{needs}
 use Rattle.contacts.proofs.is_time.Statement.{statement}
 use Rattle.contacts.proofs.is_time.Tie as tie
-use Rattle.contacts.proofs.all_digits.Reads as all-digits-reads
-use Rattle.text.proofs.all.Reads as all-reads
-use Rattle.text.proofs.any.Reads as any-reads
-
-any-requires : tie.Need-any-requires
-any-requires c κs = search needs
 
 all-digits-requires : tie.Need-all-digits-requires
 all-digits-requires c κs = search needs
 
-all-requires : tie.Need-all-requires
-all-requires c κs = search needs
-
 returns : tie.Need-returns
-unfolding isTime
-returns c = cc
+returns c = search time-of-4
+
+all-digits-requires-2 : tie.Need-all-digits-requires-2
+all-digits-requires-2 c κs = search needs
+
+returns-2 : tie.Need-returns-2
+returns-2 c = search time-of-6
+
+returns-3 : tie.Need-returns-3
+returns-3 c = search no-time
 
 pub is-time-spec : {M : Type 1} → statement M
-is-time-spec = tie.close (tie.spec any-requires all-digits-requires all-requires returns)
+is-time-spec = tie.close (tie.spec all-digits-requires returns all-digits-requires-2 returns-2 returns-3)

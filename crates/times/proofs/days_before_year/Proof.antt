@@ -1,57 +1,41 @@
-use mathlib.Core.Path.{_≡_}
-use Prim.Native.Nat.{_≤_, _-_}
-use native.Mathlib.Omega.{arith}
 use borrow.Author.Needs.{needs}
-use Rattle.times.specs.Calendar.{daysBeforeYear}
-use Rattle.times.proofs.YearLaws.{begun, next-year, there, years-short, years-fit}
+use Rattle.times.proofs.YearLaws.{years-are, years-fit}
 use Rattle.times.proofs.days_before_year.Statement.{statement}
 use Rattle.times.proofs.days_before_year.Tie as tie
 
-abbrev Inv-loop : tie.InvT-loop
-Inv-loop year turns days₀ y₀ days y = (y ≤ year) × (days ≡ daysBeforeYear y)
+mul-result : tie.Need-mul-result
+mul-result c = search needs
 
-abbrev μ-loop : tie.MeasureT-loop
-μ-loop year turns days₀ y₀ days y = year - y
+add-result : tie.Need-add-result
+add-result c = search needs
 
-mul-days : tie.Need-mul-days Inv-loop μ-loop
-mul-days c = search needs
+add-result-2 : tie.Need-add-result-2
+add-result-2 c = search needs
 
-mul-y : tie.Need-mul-y Inv-loop μ-loop
-mul-y c = search needs
+add-result-3 : tie.Need-add-result-3
+add-result-3 c = search needs
 
-loop-holds : tie.Need-loop-holds Inv-loop μ-loop
-loop-holds c = (omega arith, search begun)
+add-result-4 : tie.Need-add-result-4
+add-result-4 c = search needs
 
-days-of-year-requires : tie.Need-days-of-year-requires Inv-loop μ-loop
-days-of-year-requires c κs = search needs
+add-result-5 : tie.Need-add-result-5
+add-result-5 c = search needs
 
-add-days : tie.Need-add-days Inv-loop μ-loop
-add-days c = omega (arith, years-short (c .before .before .loop .y))
+sub-result : tie.Need-sub-result
+sub-result c = search needs
 
-add-y : tie.Need-add-y Inv-loop μ-loop
-add-y c = search needs
-
-loop-less : tie.Need-loop-less Inv-loop μ-loop
-loop-less c = search needs
-
-loop-again : tie.Need-loop-again Inv-loop μ-loop
-loop-again c = (search needs, search next-year)
-
-returns : tie.Need-returns Inv-loop μ-loop
-returns c = (search there, search years-fit)
+returns : tie.Need-returns
+returns c = (years-are _, years-fit _ (c .pre))
 
 pub days-before-year-spec : {M : Type 1} → statement M
 days-before-year-spec =
     tie.close
     (tie.spec
-    Inv-loop
-    μ-loop
-    mul-days
-    mul-y
-    loop-holds
-    days-of-year-requires
-    add-days
-    add-y
-    loop-less
-    loop-again
+    mul-result
+    add-result
+    add-result-2
+    add-result-3
+    add-result-4
+    add-result-5
+    sub-result
     returns)
