@@ -121,6 +121,12 @@ name-fits s a e c i p q l h =
     omega (arith, length-take c (take (e - a) (drop a s)), length-take (e - a) (drop a s))
 
 -- the first tag
+rest-length : (s : List ℕ) (a : ℕ) → length (take (length s - a) (drop a s)) ≡ length s - a
+rest-length s a = rw (rest s a) (length-drop a s)
+
+pub inside-fits : (s : List ℕ) (a n : ℕ) → n < length (take (length s - a) (drop a s)) → a + n < length s
+inside-fits s a n h = omega (arith, rest-length s a)
+
 pub tag-past : (s : List ℕ) (at : ℕ) → length s ≤ at → End ≡ tagAt s at
 unfolding tagAt openAt ends
 tag-past s at h = simp (le-ltb (at + lead (other lt) (drop at s)) (length s) (omega arith))
@@ -130,11 +136,18 @@ module _ (s : List ℕ) (at i : ℕ) (e : i ≡ ends (other lt) s at) where
   unfolding tagAt openAt
   tag-none h = simp (← e, le-ltb i (length s) h)
 
-  module _ (h : i < length s) (j : ℕ) (f : j ≡ ends (other gt) s (i + 1)) where
-    pub tag-open : length s ≤ j → Refused UnterminatedTag ≡ tagAt s at
-    unfolding tagAt openAt closedAt
-    tag-open g = simp (← e, lt-ltb i (length s) h, ← f, le-ltb j (length s) g)
+  module _ (h : i < length s) (n : ℕ) (f : n ≡ ends (other gt) (take (length s - (i + 1)) (drop (i + 1) s)) 0) where
+    closes : i + 1 + n ≡ ends (other gt) s (i + 1)
+    unfolding ends
+    closes = rw (f, rest s (i + 1)) (omega arith)
 
-    pub tag-is : (r : Tag) → j < length s → r ≡ tagOf s (i + 1) (take (j - (i + 1)) (drop (i + 1) s)) (j + 1) → r ≡ tagAt s at
+    pub tag-open : length (take (length s - (i + 1)) (drop (i + 1) s)) ≤ n → Refused UnterminatedTag ≡ tagAt s at
     unfolding tagAt openAt closedAt
-    tag-is r g q = simp (← e, lt-ltb i (length s) h, ← f, lt-ltb j (length s) g) q
+    tag-open g =
+        simp (← e, lt-ltb i (length s) h, ← closes, le-ltb (i + 1 + n) (length s) (omega (arith, rest-length s (i + 1))))
+
+    pub tag-is : (r : Tag) → n < length (take (length s - (i + 1)) (drop (i + 1) s))
+        → r ≡ tagOf s (i + 1) (take (i + 1 + n - (i + 1)) (drop (i + 1) s)) (i + 1 + n + 1) → r ≡ tagAt s at
+    unfolding tagAt openAt closedAt
+    tag-is r g q =
+        simp (← e, lt-ltb i (length s) h, ← closes, lt-ltb (i + 1 + n) (length s) (omega (arith, rest-length s (i + 1)))) q

@@ -143,9 +143,10 @@ pub fn next_tag(s: &[u8], at: usize) -> Tag
     let lt = text::find(s, at, b'<');
     if lt < s.len() {
         let a = lt + 1;
-        let gt = text::find(s, a, b'>');
-        if gt < s.len() {
-            tag_of(s, a, gt)
+        let rest = &s[a..];
+        let n = text::find(rest, 0, b'>');
+        if n < rest.len() {
+            tag_of(s, a, a + n)
         } else {
             Tag::Refused(Refusal::UnterminatedTag)
         }
