@@ -2,6 +2,7 @@
 # Builds the test host (the library, Rust's std and the original rigflow in one process) and runs it:
 #   host/host.sh library          target/staticlib/liboxbreathe.a
 #   host/host.sh compare [full]   the library's answers against std's and the original's, group by group
+#   host/host.sh importer         the C program over include/oxbreathe.h, its own test, the header's examples
 #   host/host.sh bench            instructions of both between marks, one table; on x86-64 times as well
 #   host/host.sh record [DIR]     the answers of std and the original as vectors, into DIR (else where they are kept)
 # RIGFLOW_SRC: the original's sources. OXBREATHE_CACHE: where fetched packages stay. OXBREATHE_LIB: a folder with
@@ -60,19 +61,79 @@ unpack() {
 # shellcheck disable=SC2086
 lacking() { apt-get $apt install -s --no-install-recommends "$1" | awk '/^Inst/ {print $2}'; }
 
-# ---- a rustc that builds for x86-64: $rustc, $flags, and $run to run what it built
+# ---- compilers for x86-64: $cc for C, $rustc with $flags for Rust, and $run to run what they built
 
-native() {
-    command -v rustc >/dev/null || die "no rustc: Rust 1.85 or newer is needed to build the host"
-    rustc=rustc flags='' run=''
-}
 kit_tools() {
     command -v rt >/dev/null || die "no rt: the Rattle kit builds the library"
     kit=${RATTLE_HOME:-$(dirname "$(dirname "$(readlink -f "$(command -v rt)")")")}
     tools=$kit/on/$arch/toolchain
 }
-cross() {
+no_recipe() { die "no recipe for a machine of kind $arch"; }
+# alone COMMAND..: one checkout at a time fetches into the cache
+alone() {
+    exec 9>"$cache/lock"
+    flock 9
+    "$@"
+    exec 9>&-
+}
+for_c() {
+    run=''
+    case $arch in
+    x86_64)
+        command -v cc >/dev/null || die "no cc to build C with"
+        cc=cc
+        ;;
+    aarch64)
+        linker
+        c_headers
+        cc="$link/cc -nostdinc $(printf ' -isystem %s' "$cache"/c/usr/lib/gcc/*/*/include "$cache"/c/usr/include/*-linux-gnu "$cache/c/usr/include")"
+        ;;
+    *) no_recipe ;;
+    esac
+}
+for_rust() {
+    run=''
+    case $arch in
+    x86_64)
+        command -v rustc >/dev/null || die "no rustc: Rust 1.85 or newer is needed to build the host"
+        rustc=rustc flags=''
+        ;;
+    aarch64)
+        linker
+        cross
+        rustc=$link/rustc flags="--target $target -C linker=$link/cc"
+        ;;
+    *) no_recipe ;;
+    esac
+}
+# the kit's clang, with its C library
+linker() {
     kit_tools
+    run=$tools/bin/qemu-x86_64 link=$out/link
+    mkdir -p "$link"
+    # the kit's C library has no linker scripts: these stand for them
+    for lib in util rt pthread dl; do "$tools/bin/llvm-ar" rc "$link/lib$lib.a"; done
+    echo "GROUP ( $tools/lib/libc.so.6 $tools/lib/libc_nonshared.a AS_NEEDED ( $tools/lib/ld-linux-x86-64.so.2 ) )" >"$link/libc.so"
+    echo "GROUP ( $tools/lib/libgcc_s.so.1 $tools/lib/libgcc.a )" >"$link/libgcc_s.so"
+    echo "INPUT ( $tools/lib/libm.so.6 )" >"$link/libm.so"
+    "$tools/bin/clang" --target=$target -O2 -fPIC -c "$host/emulator/shim.c" -o "$link/shim.o"
+    cat >"$link/cc" <<END
+#!/bin/sh
+exec $tools/bin/clang --target=$target --ld-path=$tools/bin/ld.lld -nostartfiles -Wl,--dynamic-linker=$tools/lib/ld-linux-x86-64.so.2 -Wl,-rpath,$tools/lib -L $link -L $tools/lib $tools/lib/Scrt1.o $tools/lib/crti.o $tools/lib/crtbeginS.o $link/shim.o "\$@" $tools/lib/crtendS.o $tools/lib/crtn.o
+END
+    chmod +x "$link/cc"
+}
+# the C library's headers and a compiler's own, neither of which the kit has
+c_headers() {
+    [ ! -f "$cache/c.ok" ] || return 0
+    apt_ready libc6-dev
+    # shellcheck disable=SC2086
+    own=$(apt-cache $apt pkgnames libgcc- | grep -x 'libgcc-[0-9]*-dev' | sort -V | tail -n 1)
+    [ -n "$own" ] || die "cannot fetch a compiler's headers: no libgcc-N-dev"
+    unpack "$cache/c" libc6-dev:amd64 linux-libc-dev:amd64 "$own:amd64"
+    touch "$cache/c.ok"
+}
+cross() {
     if [ ! -f "$cache/cross.ok" ]; then
         apt_ready rustc-web
         here=$(dpkg --print-architecture)
@@ -94,24 +155,11 @@ cross() {
             "libstd-rust-web-dev:$here=$version" $(lacking "$llvm")
         touch "$cache/cross.ok"
     fi
-    link=$out/link
-    mkdir -p "$link"
     cat >"$link/rustc" <<END
 #!/bin/sh
 LD_LIBRARY_PATH=$(echo "$cache"/cross/usr/lib/*-linux-gnu) exec $cache/cross/usr/bin/rustc "\$@"
 END
-    # the kit's C library has no linker scripts: these stand for them
-    for lib in util rt pthread dl; do "$tools/bin/llvm-ar" rc "$link/lib$lib.a"; done
-    echo "GROUP ( $tools/lib/libc.so.6 $tools/lib/libc_nonshared.a AS_NEEDED ( $tools/lib/ld-linux-x86-64.so.2 ) )" >"$link/libc.so"
-    echo "GROUP ( $tools/lib/libgcc_s.so.1 $tools/lib/libgcc.a )" >"$link/libgcc_s.so"
-    echo "INPUT ( $tools/lib/libm.so.6 )" >"$link/libm.so"
-    "$tools/bin/clang" --target=$target -O2 -fPIC -c "$host/emulator/shim.c" -o "$link/shim.o"
-    cat >"$link/cc" <<END
-#!/bin/sh
-exec $tools/bin/clang --target=$target -fuse-ld=$tools/bin/ld.lld -nostartfiles -Wl,--dynamic-linker=$tools/lib/ld-linux-x86-64.so.2 -Wl,-rpath,$tools/lib -L $link -L $tools/lib $tools/lib/Scrt1.o $tools/lib/crti.o $tools/lib/crtbeginS.o $link/shim.o "\$@" $tools/lib/crtendS.o $tools/lib/crtn.o
-END
-    chmod +x "$link/rustc" "$link/cc"
-    rustc=$link/rustc flags="--target $target -C linker=$link/cc" run=$tools/bin/qemu-x86_64
+    chmod +x "$link/rustc"
 }
 
 # ---- the parts, each a plain call of rustc
@@ -183,24 +231,20 @@ staticlib() {
     done
     mv "$made.new" "$made"
 }
+# the library that programs are linked with, in $archive
+library() {
+    archive=${OXBREATHE_LIB:-$root/target/staticlib}
+    [ -n "${OXBREATHE_LIB:-}" ] || staticlib
+    [ -f "$archive/liboxbreathe.a" ] || die "no $archive/liboxbreathe.a"
+}
 # build NAME OPTION..: the program NAME; the options are for the original
 build() {
     program=$1
     shift
-    archive=${OXBREATHE_LIB:-$root/target/staticlib}
-    [ -n "${OXBREATHE_LIB:-}" ] || staticlib
-    [ -f "$archive/liboxbreathe.a" ] || die "no $archive/liboxbreathe.a"
-    # one checkout at a time fetches into the cache
-    exec 9>"$cache/lock"
-    flock 9
-    case $arch in
-    x86_64) native ;;
-    aarch64) cross ;;
-    *) die "no recipe for a machine of kind $arch" ;;
-    esac
+    library
+    alone for_rust
     mkdir -p "$out/$program"
-    original "$@"
-    exec 9>&-
+    alone original "$@"
     to=$out/$program
     crate oxbreathe 2024 "$host/oxbreathe/lib.rs" --crate-type rlib -L "native=$archive"
     # shellcheck disable=SC2086
@@ -234,6 +278,26 @@ bench() {
     esac
 }
 
+# The C program, the examples of the header and the README, and one of C++, built and tested.
+importer() {
+    library
+    alone for_c
+    to=$out/importer
+    mkdir -p "$to"
+    (cd "$root" && awk -f host/importer/examples.awk include/oxbreathe.h README.md) >"$to/examples.c"
+    linked preview -std=c11 "$host/importer/preview.c" "$host/importer/selftest.c"
+    linked examples -std=c11 "$to/examples.c"
+    linked cpp -std=c++11 "$host/importer/header.cc"
+    "$host/importer/test.sh" "$to" $run
+}
+# linked NAME OPTION.. FILE..: a program of C, in $to
+# shellcheck disable=SC2086
+linked() {
+    name=$1
+    shift
+    $cc -Wall -Wextra -Werror -pedantic -O2 -I "$root/include" "$@" "$archive/liboxbreathe.a" -o "$to/$name"
+}
+
 mkdir -p "$cache" "$out"
 export RUST_BACKTRACE=0
 case ${1:-} in
@@ -248,13 +312,14 @@ library)
     archive=$root/target/staticlib
     staticlib
     ;;
+importer) importer ;;
 bench) bench ;;
 record)
     mkdir -p "${2:-$vectors}" "${2:-$samples}"
     compare record "${2:-$vectors}" "${2:-$samples}"
     ;;
 *)
-    sed -n '3,6s/^#   //p' "$0"
+    sed -n '3,7s/^#   //p' "$0"
     exit 2
     ;;
 esac

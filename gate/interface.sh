@@ -1,0 +1,32 @@
+#!/bin/sh
+# Each call that the crates export is declared in include/oxbreathe.h with an example, made by the C program's own test, and
+# declared for Rust; and the header declares no other.
+set -u
+cd "$(dirname "$0")/.." || exit 1
+header=include/oxbreathe.h
+passed=0 failed=0
+exported=$(sed -n 's/^pub extern "C" fn \(ox_[a-z0-9_]*\)(.*/\1/p' crates/ox_*/src/*.rt)
+
+# has NAME WHAT PATTERN FILE: one test
+has() {
+    if grep -q -e "$3" "$4"; then
+        passed=$((passed + 1))
+    else
+        failed=$((failed + 1))
+        echo "interface: $1 $2 $4"
+    fi
+}
+for call in $exported; do
+    has "$call" 'is not declared in' "^[a-z][a-z0-9_]* $call(" $header
+    has "$call" 'has no example in' "^ \*     .*\<$call(" $header
+    has "$call" 'is not called in' "\<$call(" host/importer/selftest.c
+    has "$call" 'is not declared in' "\<$call(" host/oxbreathe/sys.rs
+done
+for call in $(sed -n 's/^[a-z][a-z0-9_]* \(ox_[a-z0-9_]*\)(.*/\1/p' $header); do
+    if ! echo "$exported" | grep -q -x "$call"; then
+        failed=$((failed + 1))
+        echo "interface: $call is in $header, and no crate exports it"
+    fi
+done
+echo "interface: $passed passed, $failed failed"
+[ "$failed" = 0 ] && [ "$passed" -gt 0 ]
