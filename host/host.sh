@@ -2,6 +2,7 @@
 # Builds the test host (the library, Rust's std and the original rigflow in one process) and runs it:
 #   host/host.sh library          target/staticlib/liboxbreathe.a
 #   host/host.sh compare [full]   the library's answers against std's and the original's, group by group
+#   host/host.sh doc              the examples in the documentation of the Rust crate, and the README's
 #   host/host.sh importer         the C program over include/oxbreathe.h, its own test, the header's examples
 #   host/host.sh bench            instructions of both between marks, one table; on x86-64 times as well
 #   host/host.sh record [DIR]     the answers of std and the original as vectors, into DIR (else where they are kept)
@@ -53,7 +54,7 @@ unpack() {
     # shellcheck disable=SC2086
     (cd "$cache/debs" && apt-get $apt download "$@") >>"$cache/apt/log" 2>&1 || unfetched "$@"
     for deb in "$cache"/debs/*.deb; do
-        dpkg-deb --fsys-tarfile "$deb" | tar -x -C "$into" --exclude=./usr/share/doc --exclude=./usr/share/man --exclude='*/rustdoc'
+        dpkg-deb --fsys-tarfile "$deb" | tar -x -C "$into" --exclude=./usr/share/doc --exclude=./usr/share/man
     done
     rm -rf "$cache/debs"
 }
@@ -96,12 +97,12 @@ for_rust() {
     case $arch in
     x86_64)
         command -v rustc >/dev/null || die "no rustc: Rust 1.85 or newer is needed to build the host"
-        rustc=rustc flags=''
+        rustc=rustc rustdoc=rustdoc flags=''
         ;;
     aarch64)
         linker
         cross
-        rustc=$link/rustc flags="--target $target -C linker=$link/cc"
+        rustc=$link/rustc rustdoc=$link/rustdoc flags="--target $target -C linker=$link/cc"
         ;;
     *) no_recipe ;;
     esac
@@ -134,7 +135,7 @@ c_headers() {
     touch "$cache/c.ok"
 }
 cross() {
-    if [ ! -f "$cache/cross.ok" ]; then
+    if [ ! -f "$cache/rust.ok" ]; then
         apt_ready rustc-web
         here=$(dpkg --print-architecture)
         # the newest version that both architectures have
@@ -151,15 +152,17 @@ cross() {
         # shellcheck disable=SC2086
         llvm=$(apt-cache $apt show "$std=$version" | sed -n 's/^Depends:.*\(libllvm[0-9]*\).*/\1/p' | head -n 1)
         # shellcheck disable=SC2046
-        unpack "$cache/cross" "rustc-web=$version" "$std:$here=$version" "libstd-rust-web-dev:amd64=$version" \
+        unpack "$cache/rust" "rustc-web=$version" "$std:$here=$version" "libstd-rust-web-dev:amd64=$version" \
             "libstd-rust-web-dev:$here=$version" $(lacking "$llvm")
-        touch "$cache/cross.ok"
+        touch "$cache/rust.ok"
     fi
-    cat >"$link/rustc" <<END
+    for tool in rustc rustdoc; do
+        cat >"$link/$tool" <<END
 #!/bin/sh
-LD_LIBRARY_PATH=$(echo "$cache"/cross/usr/lib/*-linux-gnu) exec $cache/cross/usr/bin/rustc "\$@"
+LD_LIBRARY_PATH=$(echo "$cache"/rust/usr/lib/*-linux-gnu) exec $cache/rust/usr/bin/$tool "\$@"
 END
-    chmod +x "$link/rustc"
+        chmod +x "$link/$tool"
+    done
 }
 
 # ---- the parts, each a plain call of rustc
@@ -237,7 +240,7 @@ library() {
     [ -n "${OXBREATHE_LIB:-}" ] || staticlib
     [ -f "$archive/liboxbreathe.a" ] || die "no $archive/liboxbreathe.a"
 }
-# build NAME OPTION..: the program NAME; the options are for the original
+# build NAME OPTION..: the program NAME; the options are for the original and for the crate
 build() {
     program=$1
     shift
@@ -246,7 +249,7 @@ build() {
     mkdir -p "$out/$program"
     alone original "$@"
     to=$out/$program
-    crate oxbreathe 2024 "$host/oxbreathe/lib.rs" --crate-type rlib -L "native=$archive"
+    crate oxbreathe 2024 "$host/oxbreathe/lib.rs" --crate-type rlib -L "native=$archive" "$@"
     # shellcheck disable=SC2086
     crate "$program" 2024 "$host/$program/main.rs" --check-cfg 'cfg(original)' $with_original \
         --extern oxbreathe="$to/liboxbreathe.rlib"
@@ -255,7 +258,8 @@ build() {
 
 # ---- what can be asked for
 
-# The original is to panic where a sum wraps, as in a debug build: that is one of the answers to compare.
+# The original is to panic where a sum wraps, as in a debug build: that is one of the answers to compare. And so is the crate,
+# which is never to panic.
 compare() {
     build compare -C overflow-checks=on
     $run "$to/compare" "$@"
@@ -278,6 +282,22 @@ bench() {
     esac
 }
 
+# The examples in the crate's documentation, and those of Rust in the README.
+doc() {
+    library
+    alone for_rust
+    to=$out/doc
+    mkdir -p "$to"
+    crate oxbreathe 2024 "$host/oxbreathe/lib.rs" --crate-type rlib -L "native=$archive"
+    awk '/^```rust$/, /^```$/' "$root/README.md" >"$to/README.md"
+    for documented in "$host/oxbreathe/lib.rs" "$to/README.md"; do
+        # shellcheck disable=SC2086
+        "$rustdoc" --test --crate-name oxbreathe --edition 2024 $flags ${run:+--test-runtool "$run"} -L "$to" -L "native=$archive" \
+            --extern oxbreathe="$to/liboxbreathe.rlib" "$documented" || :
+    done | tee "$to/told"
+    awk '/^test result:/ {files++; passed += $4; failed += $6}
+         END {if (files < 2 || passed == 0) failed++; printf "doc: %d passed, %d failed\n", passed, failed; exit failed > 0}' "$to/told"
+}
 # The C program, the examples of the header and the README, and one of C++, built and tested.
 importer() {
     library
@@ -312,6 +332,7 @@ library)
     archive=$root/target/staticlib
     staticlib
     ;;
+doc) doc ;;
 importer) importer ;;
 bench) bench ;;
 record)
@@ -319,7 +340,7 @@ record)
     compare record "${2:-$vectors}" "${2:-$samples}"
     ;;
 *)
-    sed -n '3,7s/^#   //p' "$0"
+    sed -n '3,8s/^#   //p' "$0"
     exit 2
     ;;
 esac
