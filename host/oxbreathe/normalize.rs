@@ -2,6 +2,7 @@
 
 use crate::refusal::{Answer, Refusal};
 use crate::sys::{self, Place};
+use crate::text::{part, taken};
 use std::borrow::Cow;
 use std::sync::LazyLock;
 
@@ -26,11 +27,8 @@ fn entry(table: &'static [String], entry: u32) -> &'static str {
 }
 
 /// What a place stands for, over its text; none where it is absent.
-pub(crate) fn spelled(text: &[u8], place: Place) -> Option<Cow<'_, str>> {
-    let part = || {
-        let bytes = text.get(place.start as usize..)?.get(..place.len as usize)?;
-        std::str::from_utf8(bytes).ok()
-    };
+pub(crate) fn spelled(text: &str, place: Place) -> Option<Cow<'_, str>> {
+    let part = || part(text, place.start, place.len);
     match place.kind {
         1 => part().map(Cow::Borrowed),
         2 => part().map(|part| Cow::Owned(part.to_ascii_uppercase())),
@@ -111,6 +109,8 @@ pub fn normalize_mode<'a>(
 ) -> Result<(Cow<'a, str>, Option<Cow<'a, str>>), Refusal> {
     let own = submode.unwrap_or_default();
     let normal = sys::mode_normalize(mode, own, submode.is_some()).accepted()?;
+    // Safe: both were accepted.
+    let (mode, own) = unsafe { (taken(mode), taken(own)) };
     let submode = spelled(if normal.split { mode } else { own }, normal.submode);
     Ok((spelled(mode, normal.mode).unwrap_or_default(), submode))
 }

@@ -5,7 +5,7 @@ use crate::contacts::{self, Mark, Service, joined};
 use crate::reading::{self, Read, Record, Row};
 use crate::refusal::{Answer, Refusal};
 use crate::sys::{self, Confirmed, Fated, PlanAnswer};
-use crate::text::taken;
+use crate::text::{part, taken};
 
 pub use crate::sys::Counts;
 
@@ -157,9 +157,8 @@ fn planned<'a>(text: &'a [u8], list: &[u8], window: i64, download: bool) -> Resu
     let text = unsafe { taken(text) };
     let fate = |&[fate, reason, ..]: &Fated| Fate::numbered(fate, reason);
     let confirmation = |&[low, high, bit, place, length]: &Confirmed| {
-        let date = text.get(place as usize..).and_then(|from| from.get(..length as usize));
-        let service = Service::numbered(bit)?;
-        Some(Confirmation { id: joined(low, high), service, date: date.filter(|date| !date.is_empty()) })
+        let date = part(text, place, length).filter(|date| !date.is_empty());
+        Some(Confirmation { id: joined(low, high), service: Service::numbered(bit)?, date })
     };
     let Tables { mut rows, fates, confirmations, .. } = tables;
     rows.truncate(answer.rows);

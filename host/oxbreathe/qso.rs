@@ -137,7 +137,7 @@ impl<'a> Qso<'a> {
 
     /// What a column says, none where it is absent.
     pub fn column(&self, column: Column) -> Option<Cow<'a, str>> {
-        spelled(self.text(), *self.raw.columns.get(column as usize)?)
+        spelled(self.record.text, *self.raw.columns.get(column as usize)?)
     }
 
     /// The call, empty where it is absent, as in the next four.

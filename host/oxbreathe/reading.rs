@@ -1,7 +1,7 @@
 //! ADIF text to records, as rigflow's `parse_adif`, into a table that the caller lends: nothing is copied but places.
 
 use crate::refusal::{Answer, Refusal};
-use crate::text::taken;
+use crate::text::{part, taken};
 use crate::{LONGEST, sys};
 
 pub use crate::sys::Row;
@@ -113,13 +113,9 @@ impl<'a> Record<'a> {
     /// ```
     pub fn fields(&self) -> impl Iterator<Item = Field<'a>> + use<'a> {
         let text = self.text;
-        let part = move |place: u32, length: u32| {
-            let from = text.get(place as usize..);
-            from.and_then(|from| from.get(..length as usize)).unwrap_or_default()
-        };
         self.rows.iter().map(move |&[_, name, name_length, value, value_length]| Field {
-            name: part(name, name_length),
-            value: part(value, value_length),
+            name: part(text, name, name_length).unwrap_or_default(),
+            value: part(text, value, value_length).unwrap_or_default(),
         })
     }
 

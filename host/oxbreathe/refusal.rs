@@ -58,9 +58,15 @@ pub struct Refusal {
 
 impl Refusal {
     /// None for 0, as the first two fields of an answer tell it.
+    #[inline]
     pub(crate) fn told(number: u32, place: usize) -> Option<Refusal> {
+        if number == 0 { None } else { Some(Refusal::numbered(number, place)) }
+    }
+
+    #[cold]
+    fn numbered(number: u32, place: usize) -> Refusal {
         let cause = Cause::numbered(number).unwrap_or(Cause::Unknown);
-        (number > 0).then_some(Refusal { cause, place, length: 0, wanted: 0, left: 0 })
+        Refusal { cause, place, length: 0, wanted: 0, left: 0 }
     }
 
     /// With what the answer of a reading tells besides.
@@ -111,6 +117,7 @@ pub(crate) trait Answer: Sized {
     fn refusal(&self) -> Option<Refusal>;
 
     /// The answer, if it has a value.
+    #[inline]
     fn accepted(self) -> Result<Self, Refusal> {
         self.refusal().map_or(Ok(self), Err)
     }

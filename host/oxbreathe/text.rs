@@ -26,6 +26,12 @@ pub(crate) unsafe fn taken(text: &[u8]) -> &str {
     unsafe { std::str::from_utf8_unchecked(text) }
 }
 
+/// The part of a text that a place and a length name.
+pub(crate) fn part(text: &str, place: u32, length: u32) -> Option<&str> {
+    // the sum of two numbers of 32 bits
+    text.get(place as usize..place as usize + length as usize)
+}
+
 /// The places that trimming keeps, as [`str::trim`]; of a blank text the empty range at its end.
 ///
 /// ```
