@@ -10,8 +10,9 @@
 # a liboxbreathe.a to use instead of the one that rt builds. SEED and ONLY: see compare/main.rs.
 #
 # On x86-64 the machine's rustc and cc build it. On aarch64 Debian's rustc-web (unpacked, never installed) builds it
-# for x86-64, which is all that rt's static library is for; the kit's clang and lld link it and the kit's qemu runs
-# it. No root is needed, and no network but Debian's packages, each fetched once.
+# for x86-64, which is all that rt's static library is for; the kit's clang, with Debian's headers, compiles what is C,
+# the kit's lld links it and the kit's qemu runs it. No root is needed, and no network but Debian's packages, each
+# fetched once.
 set -eu
 root=$(cd "$(dirname "$0")/.." && pwd -P)
 host=$root/host
