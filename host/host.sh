@@ -2,6 +2,8 @@
 # Builds the test host (the library, Rust's std and the original rigflow in one process) and runs it:
 #   host/host.sh library          target/staticlib/liboxbreathe.a
 #   host/host.sh compare [full]   the library's answers against std's and the original's, group by group
+#   host/host.sh doc              the examples in the documentation of the Rust crate, and the README's
+#   host/host.sh importer         the C program over include/oxbreathe.h, its own test, the header's examples
 #   host/host.sh bench            instructions of both between marks, one table; on x86-64 times as well
 #   host/host.sh stack            the stack that each exported call takes
 #   host/host.sh record [DIR]     the answers of std and the original as vectors, into DIR (else where they are kept)
@@ -9,8 +11,9 @@
 # a liboxbreathe.a to use instead of the one that rt builds. SEED and ONLY: see compare/main.rs.
 #
 # On x86-64 the machine's rustc and cc build it. On aarch64 Debian's rustc-web (unpacked, never installed) builds it
-# for x86-64, which is all that rt's static library is for; the kit's clang and lld link it and the kit's qemu runs
-# it. No root is needed, and no network but Debian's packages, each fetched once.
+# for x86-64, which is all that rt's static library is for; the kit's clang, with Debian's headers, compiles what is C,
+# the kit's lld links it and the kit's qemu runs it. No root is needed, and no network but Debian's packages, each
+# fetched once.
 set -eu
 root=$(cd "$(dirname "$0")/.." && pwd -P)
 host=$root/host
@@ -53,7 +56,7 @@ unpack() {
     # shellcheck disable=SC2086
     (cd "$cache/debs" && apt-get $apt download "$@") >>"$cache/apt/log" 2>&1 || unfetched "$@"
     for deb in "$cache"/debs/*.deb; do
-        dpkg-deb --fsys-tarfile "$deb" | tar -x -C "$into" --exclude=./usr/share/doc --exclude=./usr/share/man --exclude='*/rustdoc'
+        dpkg-deb --fsys-tarfile "$deb" | tar -x -C "$into" --exclude=./usr/share/doc --exclude=./usr/share/man
     done
     rm -rf "$cache/debs"
 }
@@ -61,20 +64,80 @@ unpack() {
 # shellcheck disable=SC2086
 lacking() { apt-get $apt install -s --no-install-recommends "$1" | awk '/^Inst/ {print $2}'; }
 
-# ---- a rustc that builds for x86-64: $rustc, $flags, and $run to run what it built
+# ---- compilers for x86-64: $cc for C, $rustc with $flags for Rust, and $run to run what they built
 
-native() {
-    command -v rustc >/dev/null || die "no rustc: Rust 1.85 or newer is needed to build the host"
-    rustc=rustc flags='' run=''
-}
 kit_tools() {
     command -v rt >/dev/null || die "no rt: the Rattle kit builds the library"
     kit=${RATTLE_HOME:-$(dirname "$(dirname "$(readlink -f "$(command -v rt)")")")}
     tools=$kit/on/$arch/toolchain
 }
-cross() {
+no_recipe() { die "no recipe for a machine of kind $arch"; }
+# alone COMMAND..: one checkout at a time fetches into the cache
+alone() {
+    exec 9>"$cache/lock"
+    flock 9
+    "$@"
+    exec 9>&-
+}
+for_c() {
+    run=''
+    case $arch in
+    x86_64)
+        command -v cc >/dev/null || die "no cc to build C with"
+        cc=cc
+        ;;
+    aarch64)
+        linker
+        c_headers
+        cc="$link/cc -nostdinc $(printf ' -isystem %s' "$cache"/c/usr/lib/gcc/*/*/include "$cache"/c/usr/include/*-linux-gnu "$cache/c/usr/include")"
+        ;;
+    *) no_recipe ;;
+    esac
+}
+for_rust() {
+    run=''
+    case $arch in
+    x86_64)
+        command -v rustc >/dev/null || die "no rustc: Rust 1.85 or newer is needed to build the host"
+        rustc=rustc rustdoc=rustdoc flags=''
+        ;;
+    aarch64)
+        linker
+        cross
+        rustc=$link/rustc rustdoc=$link/rustdoc flags="--target $target -C linker=$link/cc"
+        ;;
+    *) no_recipe ;;
+    esac
+}
+# the kit's clang, with its C library
+linker() {
     kit_tools
-    if [ ! -f "$cache/cross.ok" ]; then
+    run=$tools/bin/qemu-x86_64 link=$out/link
+    mkdir -p "$link"
+    # the kit's C library has no linker scripts: these stand for them
+    for lib in util rt pthread dl; do "$tools/bin/llvm-ar" rc "$link/lib$lib.a"; done
+    echo "GROUP ( $tools/lib/libc.so.6 $tools/lib/libc_nonshared.a AS_NEEDED ( $tools/lib/ld-linux-x86-64.so.2 ) )" >"$link/libc.so"
+    echo "GROUP ( $tools/lib/libgcc_s.so.1 $tools/lib/libgcc.a )" >"$link/libgcc_s.so"
+    echo "INPUT ( $tools/lib/libm.so.6 )" >"$link/libm.so"
+    "$tools/bin/clang" --target=$target -O2 -fPIC -c "$host/emulator/shim.c" -o "$link/shim.o"
+    cat >"$link/cc" <<END
+#!/bin/sh
+exec $tools/bin/clang --target=$target --ld-path=$tools/bin/ld.lld -nostartfiles -Wl,--dynamic-linker=$tools/lib/ld-linux-x86-64.so.2 -Wl,-rpath,$tools/lib -L $link -L $tools/lib $tools/lib/Scrt1.o $tools/lib/crti.o $tools/lib/crtbeginS.o $link/shim.o "\$@" $tools/lib/crtendS.o $tools/lib/crtn.o
+END
+    chmod +x "$link/cc"
+}
+# the C library's headers and a compiler's own, neither of which the kit has
+c_headers() {
+    [ ! -f "$cache/c.ok" ] || return 0
+    apt_ready libc6-dev
+    # shellcheck disable=SC2086
+    own=$(apt-cache $apt pkgnames libgcc- | grep -x 'libgcc-[0-9]*-dev' | sort -V | tail -n 1)
+    [ -n "$own" ] || die "cannot fetch a compiler's headers: no libgcc-N-dev"
+    unpack "$cache/c" libc6-dev:amd64 linux-libc-dev:amd64 "$own:amd64"
+    touch "$cache/c.ok"
+}
+cross() {
+    if [ ! -f "$cache/rust.ok" ]; then
         apt_ready rustc-web
         here=$(dpkg --print-architecture)
         # the newest version that both architectures have
@@ -91,28 +154,17 @@ cross() {
         # shellcheck disable=SC2086
         llvm=$(apt-cache $apt show "$std=$version" | sed -n 's/^Depends:.*\(libllvm[0-9]*\).*/\1/p' | head -n 1)
         # shellcheck disable=SC2046
-        unpack "$cache/cross" "rustc-web=$version" "$std:$here=$version" "libstd-rust-web-dev:amd64=$version" \
+        unpack "$cache/rust" "rustc-web=$version" "$std:$here=$version" "libstd-rust-web-dev:amd64=$version" \
             "libstd-rust-web-dev:$here=$version" $(lacking "$llvm")
-        touch "$cache/cross.ok"
+        touch "$cache/rust.ok"
     fi
-    link=$out/link
-    mkdir -p "$link"
-    cat >"$link/rustc" <<END
+    for tool in rustc rustdoc; do
+        cat >"$link/$tool" <<END
 #!/bin/sh
-LD_LIBRARY_PATH=$(echo "$cache"/cross/usr/lib/*-linux-gnu) exec $cache/cross/usr/bin/rustc "\$@"
+LD_LIBRARY_PATH=$(echo "$cache"/rust/usr/lib/*-linux-gnu) exec $cache/rust/usr/bin/$tool "\$@"
 END
-    # the kit's C library has no linker scripts: these stand for them
-    for lib in util rt pthread dl; do "$tools/bin/llvm-ar" rc "$link/lib$lib.a"; done
-    echo "GROUP ( $tools/lib/libc.so.6 $tools/lib/libc_nonshared.a AS_NEEDED ( $tools/lib/ld-linux-x86-64.so.2 ) )" >"$link/libc.so"
-    echo "GROUP ( $tools/lib/libgcc_s.so.1 $tools/lib/libgcc.a )" >"$link/libgcc_s.so"
-    echo "INPUT ( $tools/lib/libm.so.6 )" >"$link/libm.so"
-    "$tools/bin/clang" --target=$target -O2 -fPIC -c "$host/emulator/shim.c" -o "$link/shim.o"
-    cat >"$link/cc" <<END
-#!/bin/sh
-exec $tools/bin/clang --target=$target -fuse-ld=$tools/bin/ld.lld -nostartfiles -Wl,--dynamic-linker=$tools/lib/ld-linux-x86-64.so.2 -Wl,-rpath,$tools/lib -L $link -L $tools/lib $tools/lib/Scrt1.o $tools/lib/crti.o $tools/lib/crtbeginS.o $link/shim.o "\$@" $tools/lib/crtendS.o $tools/lib/crtn.o
-END
-    chmod +x "$link/rustc" "$link/cc"
-    rustc=$link/rustc flags="--target $target -C linker=$link/cc" run=$tools/bin/qemu-x86_64
+        chmod +x "$link/$tool"
+    done
 }
 
 # ---- the parts, each a plain call of rustc
@@ -184,26 +236,22 @@ staticlib() {
     done
     mv "$made.new" "$made"
 }
-# build NAME OPTION..: the program NAME; the options are for the original
-build() {
-    program=$1
-    shift
+# the library that programs are linked with, in $archive
+library() {
     archive=${OXBREATHE_LIB:-$root/target/staticlib}
     [ -n "${OXBREATHE_LIB:-}" ] || staticlib
     [ -f "$archive/liboxbreathe.a" ] || die "no $archive/liboxbreathe.a"
-    # one checkout at a time fetches into the cache
-    exec 9>"$cache/lock"
-    flock 9
-    case $arch in
-    x86_64) native ;;
-    aarch64) cross ;;
-    *) die "no recipe for a machine of kind $arch" ;;
-    esac
+}
+# build NAME OPTION..: the program NAME; the options are for the original and for the crate
+build() {
+    program=$1
+    shift
+    library
+    alone for_rust
     mkdir -p "$out/$program"
-    original "$@"
-    exec 9>&-
+    alone original "$@"
     to=$out/$program
-    crate oxbreathe 2024 "$host/oxbreathe/lib.rs" --crate-type rlib -L "native=$archive"
+    crate oxbreathe 2024 "$host/oxbreathe/lib.rs" --crate-type rlib -L "native=$archive" "$@"
     # shellcheck disable=SC2086
     crate "$program" 2024 "$host/$program/main.rs" --check-cfg 'cfg(original)' $with_original \
         --extern oxbreathe="$to/liboxbreathe.rlib"
@@ -212,7 +260,8 @@ build() {
 
 # ---- what can be asked for
 
-# The original is to panic where a sum wraps, as in a debug build: that is one of the answers to compare.
+# The original is to panic where a sum wraps, as in a debug build: that is one of the answers to compare. And so is the crate,
+# which is never to panic.
 compare() {
     build compare -C overflow-checks=on
     $run "$to/compare" "$@"
@@ -240,6 +289,41 @@ stack() {
     build bench
     $run "$to/bench" stack
 }
+# The examples in the crate's documentation, and those of Rust in the README.
+doc() {
+    library
+    alone for_rust
+    to=$out/doc
+    mkdir -p "$to"
+    crate oxbreathe 2024 "$host/oxbreathe/lib.rs" --crate-type rlib -L "native=$archive"
+    awk '/^```rust$/, /^```$/' "$root/README.md" >"$to/README.md"
+    for documented in "$host/oxbreathe/lib.rs" "$to/README.md"; do
+        # shellcheck disable=SC2086
+        "$rustdoc" --test --crate-name oxbreathe --edition 2024 $flags ${run:+--test-runtool "$run"} -L "$to" -L "native=$archive" \
+            --extern oxbreathe="$to/liboxbreathe.rlib" "$documented" || :
+    done | tee "$to/told"
+    awk '/^test result:/ {files++; passed += $4; failed += $6}
+         END {if (files < 2 || passed == 0) failed++; printf "doc: %d passed, %d failed\n", passed, failed; exit failed > 0}' "$to/told"
+}
+# The C program, the examples of the header and the README, and one of C++, built and tested.
+importer() {
+    library
+    alone for_c
+    to=$out/importer
+    mkdir -p "$to"
+    (cd "$root" && awk -f host/importer/examples.awk include/oxbreathe.h README.md) >"$to/examples.c"
+    linked preview -std=c11 "$host/importer/preview.c" "$host/importer/selftest.c"
+    linked examples -std=c11 "$to/examples.c"
+    linked cpp -std=c++11 "$host/importer/header.cc"
+    "$host/importer/test.sh" "$to" $run
+}
+# linked NAME OPTION.. FILE..: a program of C, in $to
+# shellcheck disable=SC2086
+linked() {
+    name=$1
+    shift
+    $cc -Wall -Wextra -Werror -pedantic -O2 -I "$root/include" "$@" "$archive/liboxbreathe.a" -o "$to/$name"
+}
 
 mkdir -p "$cache" "$out"
 export RUST_BACKTRACE=0
@@ -255,6 +339,8 @@ library)
     archive=$root/target/staticlib
     staticlib
     ;;
+doc) doc ;;
+importer) importer ;;
 bench) bench ;;
 stack) stack ;;
 record)
@@ -262,7 +348,7 @@ record)
     compare record "${2:-$vectors}" "${2:-$samples}"
     ;;
 *)
-    sed -n '3,7s/^#   //p' "$0"
+    sed -n '3,9s/^#   //p' "$0"
     exit 2
     ;;
 esac

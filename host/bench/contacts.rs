@@ -4,7 +4,7 @@
 use crate::measure::Row;
 use crate::rows::kept;
 use original::dedupe::parse_dt;
-use oxbreathe::contacts::{Record, index, search};
+use oxbreathe::sys;
 use std::cell::RefCell;
 use std::collections::HashMap;
 use std::str::from_utf8;
@@ -26,18 +26,19 @@ pub fn rows() -> [Row; 3] {
 }
 
 thread_local! {
-    static INDEX: RefCell<Vec<Record>> = RefCell::new(vec![[0; 14]; 100_000]);
+    static INDEX: RefCell<Vec<sys::Record>> = RefCell::new(vec![[0; 14]; 100_000]);
     static FOUND: RefCell<Vec<u64>> = RefCell::new(vec![0; 10_000]);
 }
 
 fn indexed((list, _): Lists) -> usize {
-    INDEX.with_borrow_mut(|records| index(list, records).map_or(0, |mark| mark.contacts))
+    INDEX.with_borrow_mut(|records| sys::contacts_index(list, records).contacts)
 }
 
 fn searched((list, other): Lists) -> u64 {
     INDEX.with_borrow_mut(|records| {
         FOUND.with_borrow_mut(|found| {
-            search(list, other, 1800, records, found).map_or(0, |mark| found[..mark.contacts].iter().sum())
+            let mark = sys::contacts_search(list, other, 1800, records, found);
+            found[..mark.contacts].iter().sum()
         })
     })
 }

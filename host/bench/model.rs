@@ -6,8 +6,7 @@ use crate::reading::log;
 use crate::rows::kept;
 use original::adif::{AdifRecord, parse_adif, qso_to_record, record_to_qso, write_record};
 use original::model::Qso;
-use oxbreathe::reading::ROW;
-use oxbreathe::sys;
+use oxbreathe::sys::{self, ROW};
 use std::cell::RefCell;
 
 /// A log as each side reads it.

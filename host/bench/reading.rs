@@ -3,17 +3,18 @@
 use crate::measure::Row;
 use crate::rows::kept;
 use original::adif::parse_adif;
-use oxbreathe::reading::{ROW, read};
+use oxbreathe::reading::{read, table};
+use oxbreathe::sys;
 use std::cell::RefCell;
 use std::str::from_utf8;
 
-/// A text, and how many numbers the table for it has.
+/// A text, and how many rows the table for it has.
 type Text = (&'static [u8], usize);
 
 pub fn rows() -> [Row; 4] {
     let lent = |text: Vec<u8>| {
-        let tags = text.iter().filter(|&&b| b == b'<').count();
-        (kept(text), tags * ROW)
+        let rows = table(&text).len();
+        (kept(text), rows)
     };
     let row = |name, text| Row::new("read", name, text, library, original);
     [
@@ -24,9 +25,9 @@ pub fn rows() -> [Row; 4] {
     ]
 }
 
-fn library((text, numbers): Text) -> usize {
-    thread_local!(static TABLE: RefCell<Vec<u32>> = RefCell::new(vec![0; 4_000_000]));
-    TABLE.with_borrow_mut(|table| read(text, &mut table[..numbers]).map_or(0, |read| read.records))
+fn library((text, rows): Text) -> usize {
+    thread_local!(static TABLE: RefCell<Vec<sys::Row>> = RefCell::new(vec![[0; sys::ROW]; 800_000]));
+    TABLE.with_borrow_mut(|table| read(text, &mut table[..rows]).map_or(0, |read| read.len()))
 }
 
 fn original((text, _): Text) -> usize {

@@ -5,21 +5,21 @@ use crate::measure::Row;
 use crate::reading::log;
 use crate::rows::kept;
 use original::adif::{AdifRecord, parse_adif, write_record};
-use oxbreathe::reading::{ROW, read};
+use oxbreathe::reading::{self, read};
 use oxbreathe::writing::write;
 use std::cell::RefCell;
 
 #[derive(Clone, Copy)]
 struct Log {
     text: &'static [u8],
-    table: &'static [u32],
+    table: &'static [reading::Row],
     records: &'static [AdifRecord],
 }
 
 pub fn rows() -> [Row; 1] {
     let text = kept(log(10_000));
-    let mut table = vec![0; 1_000_000];
-    let used = read(text, &mut table).unwrap().rows().count() * ROW;
+    let mut table = reading::table(text);
+    let used = read(text, &mut table).unwrap().rows().len();
     table.truncate(used);
     let records = parse_adif(std::str::from_utf8(text).unwrap()).unwrap();
     [Row::new("write", "10,000 records", Log { text, table: kept(table), records: kept(records) }, library, original)]

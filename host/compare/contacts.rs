@@ -2,8 +2,8 @@
 
 use crate::generate::{Random, damage, utf8};
 use crate::harness::{Group, Run};
-use oxbreathe::LONGEST;
 use oxbreathe::sys::{self, AppendAnswer, FreshAnswer, MarkAnswer, Record};
+use oxbreathe::{LONGEST, contacts as wrapped};
 
 pub fn run(run: &mut Run) {
     run.group("contacts/lists", lists);
@@ -14,6 +14,7 @@ pub fn run(run: &mut Run) {
     run.group("contacts/searches", searches);
     run.group("contacts/large", large);
     run.group("contacts/written", writes);
+    run.group("contacts/wrapper", wrapper);
 }
 
 #[derive(Clone, Debug, Default, PartialEq)]
@@ -463,7 +464,6 @@ fn writes(g: &mut Group) {
             let largest = taken.last().map_or(0, |c| c.id);
             let texts = contact.texts().map(|t| &t[..]);
             let [call, date, time, band, mode] = texts;
-            let given = sys::Contact { id: contact.id, services: contact.services, call, date, time, band, mode };
             let end = used + 16 + texts.iter().map(|t| t.len()).sum::<usize>();
             let long = texts.iter().any(|t| t.len() > 255);
             let refusal = match () {
@@ -476,7 +476,10 @@ fn writes(g: &mut Group) {
                 taken.push(contact.clone());
                 expected[..end].copy_from_slice(&written(&taken));
             }
-            let answer = sys::contacts_append(&mut out, used, taken.len() - (refusal == 0) as usize, largest, given);
+            let (count, services) = (taken.len() - (refusal == 0) as usize, contact.services);
+            let answer = sys::contacts_append(
+                &mut out, used, count, largest, contact.id, services, call, date, time, band, mode,
+            );
             let length = if refusal == 0 { end } else { 0 };
             g.same(&expected[..], (answer, &out), (AppendAnswer { refusal, length }, &expected));
             if refusal == 0 {
@@ -490,7 +493,6 @@ fn writes(g: &mut Group) {
     let contact = alike(&mut g.random, 9);
     let contact = Contact { date: b"20260301".to_vec(), time: b"1200".to_vec(), ..contact };
     let [call, date, time, band, mode] = contact.texts().map(|t| &t[..]);
-    let given = sys::Contact { id: 9, services: 0, call, date, time, band, mode };
     let cases = [
         (4, 0, 17),
         (0, 0, 17),
@@ -500,8 +502,56 @@ fn writes(g: &mut Group) {
         (LONGEST, 1, 1),
     ];
     for (used, count, refusal) in cases {
-        let answer = sys::contacts_append(&mut out, used, count, 3, given);
+        let answer = sys::contacts_append(&mut out, used, count, 3, 9, 0, call, date, time, band, mode);
         g.same(used as u64, (answer, out == before), (AppendAnswer { refusal, length: 0 }, true));
+    }
+}
+
+/// The crate's lists: written, listed, searched, and refused.
+fn wrapper(g: &mut Group) {
+    fn told(contact: wrapped::Contact) -> Contact {
+        let [call, date, time, band, mode] =
+            [contact.call, contact.date, contact.time, contact.band, contact.mode].map(|text| text.as_bytes().to_vec());
+        let services = contact.services.iter().map(|service| service.number() as u8).sum();
+        Contact { id: contact.id, services, call, date, time, band, mode }
+    }
+    for _ in 0..g.depth(300, 20_000) {
+        let (count, other) = (g.random.place(20), g.random.place(20));
+        let [contacts, others] = [count, other].map(|count| some(&mut g.random, count, alike));
+        let (list, other) = (written(&contacts), written(&others));
+        let mut ours = wrapped::Writer::new();
+        for Contact { id, services, call, date, time, band, mode } in &contacts {
+            let [call, date, time, band, mode] =
+                [call, date, time, band, mode].map(|text| std::str::from_utf8(text).unwrap());
+            let services = wrapped::Service::ALL.iter().copied().filter(|s| services & s.number() as u8 != 0).collect();
+            let contact = wrapped::Contact { id: *id, services, call, date, time, band, mode };
+            g.same(*id, ours.append(&contact).map_err(|refusal| refusal.number()), Ok(()));
+        }
+        g.same(&list[..], ours.bytes(), &list[..]);
+        let window = window(&mut g.random);
+        let (mut damaged, mut refusal) = (list.clone(), 0);
+        if g.random.below(3) == 0 {
+            damage(&mut g.random, &mut damaged);
+            refusal = marked(&damaged).refusal;
+        }
+        let listed = wrapped::List::new(&damaged);
+        if refusal > 0 {
+            g.same(&damaged[..], listed.map(|_| ()).map_err(|refusal| refusal.number()), Err(refusal));
+            continue;
+        }
+        let (listed, contacts) = (listed.unwrap(), read(&damaged).unwrap());
+        g.same(
+            &damaged[..],
+            listed.contacts().map(told).collect(),
+            contacts.iter().map(|(_, c)| c.clone()).collect::<Vec<_>>(),
+        );
+        let (_, numbers) = searched(&damaged, &other, window, (contacts.len(), others.len()));
+        let found = numbers.iter().map(|&n| (n as usize).checked_sub(1).map(|n| contacts[n].1.clone())).collect();
+        g.same(
+            &damaged[..],
+            listed.search(&other, window).unwrap().into_iter().map(|c| c.map(told)).collect::<Vec<_>>(),
+            found,
+        );
     }
 }
 

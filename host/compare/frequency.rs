@@ -9,7 +9,7 @@ use crate::rust::{hertz as mhz_string_to_hz, megahertz as hz_to_mhz_string};
 #[cfg(original)]
 use original::adif::{hz_to_mhz_string, mhz_string_to_hz};
 use oxbreathe::sys::{self, Frequency, Written};
-use oxbreathe::{Cause, LONGEST, Refusal, frequency};
+use oxbreathe::{LONGEST, frequency};
 
 pub fn run(run: &mut Run) {
     run.group("mhz/short", short);
@@ -252,14 +252,13 @@ fn texts(g: &mut Group) {
 fn wrapper(g: &mut Group) {
     for _ in 0..g.depth(500, 5_000) {
         let text = decimal(&mut g.random);
-        let refused = |cause| Err(Refusal { cause, place: 0 });
-        let read = if rust::inexact(&text) { refused(Cause::InexactFrequency) } else { Ok(mhz_string_to_hz(&text)) };
+        let read = if rust::inexact(&text) { Err(rust::refusal(15, 0)) } else { Ok(mhz_string_to_hz(&text)) };
         g.same(&text[..], frequency::hertz(text.as_bytes()), read);
         let (hz, mut out) = (g.random.number(), [0; 14]);
         let text = hz_to_mhz_string(hz);
         let written = match hz {
-            TOO_HIGH.. => Err(Refusal { cause: Cause::FrequencyTooHigh, place: 0 }),
-            _ if text.len() > out.len() => Err(Refusal { cause: Cause::ShortOutput, place: 0 }),
+            TOO_HIGH.. => Err(rust::refusal(14, 0)),
+            _ if text.len() > out.len() => Err(rust::refusal(13, 0)),
             _ => Ok(text.as_bytes()),
         };
         g.same(hz, frequency::megahertz(hz, &mut out), written);

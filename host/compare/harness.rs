@@ -33,15 +33,13 @@ impl Run {
         // by its name as well, so that a group keeps its inputs when others come or go
         let seed = name.bytes().fold(self.seed, |s, b| s.wrapping_mul(31).wrapping_add(b as u64));
         let mut group = Group { full: self.full, random: Random::new(seed), compared: 0, differ: 0, smallest: None };
-        let panic = catch_unwind(AssertUnwindSafe(|| body(&mut group))).err();
+        let panic = panicked(|| body(&mut group));
         println!("{name}: {} compared, {} differ", group.compared, group.differ);
         if let Some(Difference { input, ours, theirs, .. }) = &group.smallest {
             println!("    smallest: {input}\n    library:  {ours}\n    expected: {theirs}");
         }
-        if let Some(payload) = &panic {
-            let message =
-                payload.downcast_ref::<String>().map(String::as_str).or(payload.downcast_ref::<&str>().copied());
-            println!("    the group panicked: {}", message.unwrap_or("no message"));
+        if let Some(message) = &panic {
+            println!("    the group panicked: {message}");
         }
         self.compared += group.compared;
         match group.differ == 0 && group.compared > 0 && panic.is_none() {
@@ -164,6 +162,13 @@ impl<A: Input, B: Input, C: Input> Input for (A, B, C) {
     fn show(&self) -> String {
         format!("{} {} {}", self.0.show(), self.1.show(), self.2.show())
     }
+}
+
+/// The message of the call's panic, if it panics.
+pub fn panicked(call: impl FnOnce()) -> Option<String> {
+    let payload = catch_unwind(AssertUnwindSafe(call)).err()?;
+    let message = payload.downcast_ref::<String>().map(String::as_str).or(payload.downcast_ref::<&str>().copied());
+    Some(message.unwrap_or("no message").to_string())
 }
 
 /// What the call gives, or `None` where it panics, as the original does where a sum wraps.

@@ -14,6 +14,7 @@ mod files;
 mod frequency;
 mod generate;
 mod harness;
+mod hostile;
 #[cfg(original)]
 mod model;
 #[cfg(original)]
@@ -58,6 +59,7 @@ fn compare(mut run: Run, folder: &Path, samples: &Path) -> ExitCode {
     reading::run(&mut run);
     writing::run(&mut run);
     contacts::run(&mut run);
+    hostile::run(&mut run);
     vectors::run(&mut run, folder, samples);
     examples::run(&mut run);
     #[cfg(original)]

@@ -3,11 +3,11 @@
 
 use crate::generate::{Random, damage, utf8};
 use crate::harness::{Group, Run};
+use crate::vectors::COLUMNS;
 use original::adif::{AdifRecord, parse_adif_to_qsos, record_to_qso, write_record};
 use original::model::Qso;
-use oxbreathe::contact::COLUMNS;
+use oxbreathe::normalize;
 use oxbreathe::sys::{self, Place, QsoAnswer};
-use oxbreathe::{normalize, reading};
 
 pub fn run(run: &mut Run) {
     run.group("model/columns", columns);
@@ -124,7 +124,7 @@ pub fn told(text: &[u8], table: &[u32], qso: &sys::Qso) -> Qso {
     let column = |k: usize| spelled(text, qso.columns[k]);
     let part =
         |place: u32, length: u32| std::str::from_utf8(&text[place as usize..][..length as usize]).unwrap().to_string();
-    let rows = table.chunks_exact(reading::ROW);
+    let rows = table.chunks_exact(5);
     let extra = rows.filter(|row| sys::column(part(row[1], row[2]).as_bytes()) == 13);
     Qso {
         call: column(0).unwrap_or_default(),

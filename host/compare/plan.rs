@@ -10,7 +10,8 @@ use original::adif::{AdifRecord, parse_adif, record_to_qso, write_record};
 use original::import::{self, ImportPlan, ImportProblem};
 use original::model::Qso;
 use original::rusqlite::{self, Connection};
-use oxbreathe::plan::{self, Service};
+use oxbreathe::contacts::Service;
+use oxbreathe::plan::{self, Reason};
 use oxbreathe::sys::{self, Confirmed, Counts, Fated, PlanAnswer, ReadAnswer, Record, Written};
 use oxbreathe::{LONGEST, Refusal};
 use std::collections::HashSet;
@@ -54,7 +55,7 @@ fn ours(case: &Case, rooms: Rooms) -> Left {
         confirmations: vec![[7; 5]; rooms.confirmations],
     };
     let Left { table, index, fates, confirmations, .. } = &mut left;
-    left.answer = sys::plan([&case.text, &case.list], case.window, case.download, table, index, fates, confirmations);
+    left.answer = sys::plan(&case.text, &case.list, case.window, case.download, table, index, fates, confirmations);
     left
 }
 
@@ -345,7 +346,7 @@ pub fn made(case: &Case) -> Result<(PlanAnswer, Theirs), u32> {
 fn enough(case: &Case) -> Rooms {
     let tables = plan::Tables::new(&case.text, &case.list);
     Rooms {
-        numbers: tables.rows.len(),
+        numbers: tables.rows.len() * 5,
         index: tables.index.len(),
         fates: tables.fates.len(),
         confirmations: tables.confirmations.len(),
@@ -525,22 +526,29 @@ fn wrapped(g: &mut Group) {
         let ours = call(text, list, *window);
         let (expected, theirs) = expected(&case, enough(&case));
         let Some(theirs) = theirs else {
-            let told = ours.map(|_| ()).map_err(|Refusal { cause, place }| (cause.number(), place));
-            g.same(&case, told, Err((expected.answer.refusal, expected.answer.place)));
+            let PlanAnswer { refusal, place, name, name_length, wanted, left, .. } = expected.answer;
+            let told = Refusal { length: name_length, wanted, left, ..rust::refusal(refusal, place + name) };
+            g.same(&case, ours.map(|_| ()), Err(told));
             continue;
         };
         let Ok(ours) = ours else {
             g.same(&case, ours.map(|_| ()), Ok(()));
             continue;
         };
-        let fates: Vec<[u32; 2]> = ours.fates.iter().map(|fate| [fate.number(), fate.reason()]).collect();
+        let fates: Vec<[u32; 2]> =
+            ours.fates.iter().map(|fate| [fate.number(), fate.reason().map_or(0, Reason::number)]).collect();
         let counts = (ours.counts, ours.mark.contacts, ours.mark.largest);
         g.same(&case, fates, theirs.fates.clone());
         g.same(&case, counts, (theirs.counts(), expected.answer.contacts, expected.answer.largest));
         let confirmations: Vec<_> = ours.confirmations.iter().map(|c| (c.id, c.service, c.date)).collect();
-        let service = |c: &import::Confirmation| Service::with_bit(bit(&c.service)).expect("a service");
+        let service = |c: &import::Confirmation| Service::numbered(bit(&c.service)).expect("a service");
         let told = theirs.plan.confirmations.iter().map(|c| (c.qso_id as u64, service(c), c.confirmed_at.as_deref()));
         g.same(&case, confirmations, told.collect());
+        let calls = ours.records().map(|(record, fate)| (record.field("call").map(str::to_string), fate.number()));
+        let records = std::str::from_utf8(text).map(parse_adif).unwrap().unwrap();
+        let told =
+            records.iter().map(|record| record.get("CALL").cloned()).zip(theirs.fates.iter().map(|fate| fate[0]));
+        g.same(&case, calls.collect::<Vec<_>>(), told.collect());
         g.same(&case, ours.summary(), theirs.plan.summary());
         g.same(&case, ours.is_fresh(list), Ok(true));
     }

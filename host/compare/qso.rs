@@ -4,11 +4,11 @@
 use crate::generate::{Random, damage, utf8};
 use crate::harness::{Group, Run};
 use crate::model::{EXTRA, Laid, inexact, laid, random_record, told, value};
+use crate::vectors::COLUMNS;
 use crate::writing::{CONTROL, Output, fitting};
 use original::adif::{AdifRecord, parse_adif, parse_adif_to_qsos, qso_to_record, record_to_qso, write_record};
-use oxbreathe::contact::COLUMNS;
 use oxbreathe::sys::{self, Place, Written};
-use oxbreathe::{LONGEST, normalize, reading};
+use oxbreathe::{LONGEST, normalize};
 
 pub fn run(run: &mut Run) {
     run.group("model/written", written);
@@ -112,7 +112,7 @@ fn same(g: &mut Group, text: &[u8], qso: sys::Qso, table: &[u32], count: usize, 
 /// The rows of a record that are no columns.
 fn extra_rows(text: &[u8], table: &[u32]) -> Vec<u32> {
     let extra = |row: &&[u32]| sys::column(&text[row[1] as usize..][..row[2] as usize]) == 13;
-    table.chunks_exact(reading::ROW).filter(extra).flatten().copied().collect()
+    table.chunks_exact(5).filter(extra).flatten().copied().collect()
 }
 
 /// A name that the writer takes.

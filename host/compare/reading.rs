@@ -4,7 +4,7 @@
 use crate::generate::{Placed, Random, bytes, damage, every, utf8};
 use crate::harness::{Group, Run};
 use oxbreathe::sys::{self, ReadAnswer};
-use oxbreathe::{LONGEST, reading};
+use oxbreathe::{LONGEST, Refusal, reading};
 use std::collections::BTreeMap;
 
 pub fn run(run: &mut Run) {
@@ -256,26 +256,26 @@ fn tables(g: &mut Group) {
         let full = 5 * expected(&text, 5_000).0.rows;
         for numbers in [full.saturating_sub(5), full.saturating_sub(1), full, full + 1, full + 7] {
             same(g, &text, numbers);
-            let (answer, rows) = expected(&text, numbers);
-            let mut table = vec![7; numbers];
+            let (answer, rows) = expected(&text, numbers / 5 * 5);
+            let mut table = vec![[7; 5]; numbers / 5];
             let ours = reading::read(&text, &mut table).map(|read| {
                 let numbers = |part: &str| (part.as_ptr() as usize - text.as_ptr() as usize, part.len());
-                let row = |row: reading::Row| (row.record, numbers(row.name), numbers(row.value));
-                (read.records, read.rows().map(row).collect::<Vec<_>>())
+                let fields = |record: reading::Record| {
+                    record
+                        .fields()
+                        .map(move |field| (record.number(), numbers(field.name), numbers(field.value)))
+                        .collect()
+                };
+                (read.len(), read.records().flat_map::<Vec<_>, _>(fields).collect::<Vec<_>>())
             });
             let five = |row: &[u32]| (row[0], (row[1] as usize, row[2] as usize), (row[3] as usize, row[4] as usize));
             let theirs = (answer.records, rows[..answer.rows * 5].chunks(5).map(five).collect());
             match ours {
                 Ok(ours) => g.same((&text[..], numbers as u64), ours, theirs),
-                Err(unread) => {
-                    let told = (
-                        unread.refusal.cause.number(),
-                        unread.name.start,
-                        unread.name.len(),
-                        unread.wanted,
-                        unread.left,
-                    );
-                    let expected = (answer.refusal, answer.name, answer.name_length, answer.wanted, answer.left);
+                Err(Refusal { cause, place, length, wanted, left }) => {
+                    let told = (cause.number(), place, length, wanted, left);
+                    let at = answer.place + answer.name;
+                    let expected = (answer.refusal, at, answer.name_length, answer.wanted, answer.left);
                     g.same((&text[..], numbers as u64), told, expected);
                 }
             }

@@ -1,7 +1,12 @@
 //! What Rust's std says of texts and frequencies: the side that the library is compared with, and that the vectors record.
 
-use oxbreathe::LONGEST;
+use oxbreathe::{Cause, LONGEST, Refusal};
 use std::cmp::Ordering;
+
+/// The refusal of this number at a place of the text.
+pub fn refusal(number: u32, place: usize) -> Refusal {
+    Refusal { cause: Cause::numbered(number).unwrap(), place, length: 0, wanted: 0, left: 0 }
+}
 
 /// The places of the first byte kept and of the first one after; of a blank text both are the length.
 pub fn trim(text: &str) -> (usize, usize) {

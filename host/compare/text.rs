@@ -3,8 +3,8 @@
 use crate::generate::{BESIDE, BORDERS, Placed, WHITE, bytes, damage, every, length, utf8};
 use crate::harness::{Group, Run};
 use crate::rust;
+use oxbreathe::LONGEST;
 use oxbreathe::sys::{self, Checked, Found, Numbered, Ordered, Told, Trimmed, Written};
-use oxbreathe::{Cause, LONGEST, Refusal};
 use std::fmt::Debug;
 
 pub fn run(run: &mut Run) {
@@ -320,9 +320,7 @@ fn two_long(g: &mut Group, a: &[u8], b: &[u8]) {
 
 /// The wrapper's values and refusals, as a Rust program sees them.
 fn wrapper(g: &mut Group) {
-    fn refused((number, place): (u32, usize)) -> Refusal {
-        Refusal { cause: Cause::numbered(number).unwrap(), place }
-    }
+    let refused = |(number, place)| rust::refusal(number, place);
     use oxbreathe::text as ours;
     for _ in 0..g.depth(300, 3_000) {
         let length = g.random.place(12);

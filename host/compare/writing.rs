@@ -356,7 +356,8 @@ fn outputs(g: &mut Group) {
             same(g, &rows, count + 1, room);
             same(g, &rows, count / 2, room);
             let mut out = vec![7; room];
-            let ours = writing::write(text, table, &mut out).map(<[u8]>::to_vec).map_err(|r| r.cause.number());
+            let rows_of_five: Vec<_> = table.chunks_exact(5).map(|row| row.try_into().unwrap()).collect();
+            let ours = writing::write(text, &rows_of_five, &mut out).map(<[u8]>::to_vec).map_err(|r| r.number());
             g.same(&rows, ours, expected(text, table, count, room));
         }
         same(g, &rows, usize::MAX, full.len());
@@ -480,7 +481,8 @@ fn export(g: &mut Group) {
             g.same(&texts.concat()[..], original::adif::export_header(version, program, created), text.clone());
             text
         });
-        rooms(g, &texts.concat(), theirs, |out| sys::export_header(texts.each_ref().map(Vec::as_slice), out));
+        let [version, program, created] = &texts;
+        rooms(g, &texts.concat(), theirs, |out| sys::export_header(version, program, created, out));
     }
     // the whole header of one byte less than the limit, of the limit, and of one more; and a text that is longer still
     let around = field("ADIF_VER", "").len() + field("PROGRAMID", "rigflow").len() + field("PROGRAMVERSION", "").len();
@@ -489,7 +491,7 @@ fn export(g: &mut Group) {
         let long = vec![b'x'; length - around];
         let text = format!("<ADIF_VER:{}>{} ", long.len(), std::str::from_utf8(&long).unwrap())
             + "<PROGRAMID:7>rigflow <PROGRAMVERSION:0> <CREATED_TIMESTAMP:0> <EOH>\n";
-        call(g, length as u64, LONGEST, &fitting(text, LONGEST), |out| sys::export_header([&long, b"", b""], out));
+        call(g, length as u64, LONGEST, &fitting(text, LONGEST), |out| sys::export_header(&long, b"", b"", out));
     }
 }
 
@@ -524,14 +526,13 @@ fn station(g: &mut Group) {
             }
             text
         });
-        rooms(g, &texts.concat(), theirs, |out| sys::station_fields(texts.each_ref().map(Vec::as_slice), out));
+        let [call, grid, name, state, county, cq, itu] = &texts;
+        rooms(g, &texts.concat(), theirs, |out| sys::station_fields(call, grid, name, state, county, cq, itu, out));
     }
     let mut out = [0; 60];
     let station = writing::Station { call: " W1AW", cq_zone: "5", ..writing::Station::default() };
     let fields = b"<MY_CQ_ZONE:1>5 <OPERATOR:4>W1AW <STATION_CALLSIGN:4>W1AW ";
     g.same("a station", writing::station_fields(&station, &mut out), Ok(&fields[..]));
     let long = vec![b'x'; LONGEST];
-    let none: &[u8] = b"";
-    let texts = [none, &long, none, none, none, none, none];
-    call(g, 0, 100, &Err(1), |out| sys::station_fields(texts, out));
+    call(g, 0, 100, &Err(1), |out| sys::station_fields(b"", &long, b"", b"", b"", b"", b"", out));
 }

@@ -1,19 +1,35 @@
 //! What importing a file, or a download of confirmations, would do to a log, as rigflow's `plan` and `plan_download`. The log is a list of
-//! contacts, as [`contacts::Writer`](crate::contacts::Writer) makes it. Nothing is changed: a plan says what would happen.
+//! contacts, as [`contacts::Writer`] makes it. Nothing is changed: a plan says what would happen.
 
-use crate::Refusal;
-use crate::contacts::{self, Mark};
-use crate::reading::ROW;
-use crate::sys::{self, Confirmed, Fated, PlanAnswer, Record};
+use crate::contacts::{self, Mark, Service, joined};
+use crate::reading::{self, Read, Record, Row};
+use crate::refusal::{Answer, Refusal};
+use crate::sys::{self, Confirmed, Fated, PlanAnswer};
+use crate::text::{part, taken};
 
 pub use crate::sys::Counts;
+
+numbered! {
+    /// Why a record is unusable.
+    Reason {
+        NoCall = 1 "no CALL",
+        BadDate = 2 "bad QSO_DATE",
+        BadTime = 3 "bad TIME_ON",
+        NoMode = 4 "no MODE",
+        InexactFrequency = 5 "a frequency outside the exact window",
+    }
+}
 
 /// What becomes of one record, in the order of the numbers, from 1.
 #[derive(Clone, Copy, Debug, PartialEq, Eq, Hash)]
 pub enum Fate {
+    /// It is to be imported.
     Importable,
+    /// The log has it.
     DuplicateInLog,
+    /// An importable record before it is the same contact.
     DuplicateInFile,
+    /// No contact can be made of it.
     Unusable(Reason),
     /// It bears a confirmation of a contact in the log.
     Confirmed,
@@ -21,17 +37,6 @@ pub enum Fate {
     Unmatched,
     /// A download imports nothing.
     Ignored,
-}
-
-/// Why a record is unusable.
-#[derive(Clone, Copy, Debug, PartialEq, Eq, Hash)]
-#[repr(u32)]
-pub enum Reason {
-    NoCall = 1,
-    BadDate,
-    BadTime,
-    NoMode,
-    InexactFrequency,
 }
 
 impl Fate {
@@ -49,67 +54,48 @@ impl Fate {
         }
     }
 
-    pub fn number(self) -> u32 {
+    /// Its number in the C interface, and what the program `showplan` calls it.
+    fn told(self) -> (u32, &'static str) {
         match self {
-            Fate::Importable => 1,
-            Fate::DuplicateInLog => 2,
-            Fate::DuplicateInFile => 3,
-            Fate::Unusable(_) => 4,
-            Fate::Confirmed => 5,
-            Fate::Unmatched => 6,
-            Fate::Ignored => 7,
+            Fate::Importable => (1, "importable"),
+            Fate::DuplicateInLog => (2, "duplicate-in-log"),
+            Fate::DuplicateInFile => (3, "duplicate-in-file"),
+            Fate::Unusable(_) => (4, "unusable"),
+            Fate::Confirmed => (5, "confirmed"),
+            Fate::Unmatched => (6, "unmatched"),
+            Fate::Ignored => (7, "ignored"),
         }
     }
 
-    /// The number of the reason, 0 where there is none.
-    pub fn reason(self) -> u32 {
-        match self {
-            Fate::Unusable(reason) => reason as u32,
-            _ => 0,
-        }
+    /// Its number in the C interface.
+    pub fn number(self) -> u32 {
+        self.told().0
     }
 
     /// As the program `showplan` prints it.
     pub fn name(self) -> &'static str {
-        match self {
-            Fate::Importable => "importable",
-            Fate::DuplicateInLog => "duplicate-in-log",
-            Fate::DuplicateInFile => "duplicate-in-file",
-            Fate::Unusable(_) => "unusable",
-            Fate::Confirmed => "confirmed",
-            Fate::Unmatched => "unmatched",
-            Fate::Ignored => "ignored",
-        }
+        self.told().1
     }
-}
 
-impl Reason {
-    fn numbered(number: u32) -> Option<Reason> {
-        use Reason::*;
-        [NoCall, BadDate, BadTime, NoMode, InexactFrequency].into_iter().find(|reason| *reason as u32 == number)
-    }
-}
-
-/// A service that confirms contacts, by its bit in a contact's byte.
-#[derive(Clone, Copy, Debug, PartialEq, Eq, Hash)]
-#[repr(u8)]
-pub enum Service {
-    Lotw = 1,
-    Eqsl = 2,
-    Qrz = 4,
-    Qsl = 8,
-}
-
-impl Service {
-    pub fn with_bit(bit: u32) -> Option<Service> {
-        [Service::Lotw, Service::Eqsl, Service::Qrz, Service::Qsl].into_iter().find(|service| *service as u32 == bit)
+    /// Why the record is unusable.
+    ///
+    /// ```
+    /// use oxbreathe::plan::Fate;
+    ///
+    /// let fate = Fate::numbered(4, 2).unwrap();
+    /// assert_eq!((fate.name(), fate.reason().unwrap().name()), ("unusable", "bad QSO_DATE"));
+    /// ```
+    pub fn reason(self) -> Option<Reason> {
+        if let Fate::Unusable(reason) = self { Some(reason) } else { None }
     }
 }
 
 /// A contact that a service newly confirms.
 #[derive(Clone, Copy, Debug, PartialEq, Eq)]
 pub struct Confirmation<'a> {
+    /// The contact's id.
     pub id: u64,
+    /// Who confirms it.
     pub service: Service,
     /// When, as the record says it.
     pub date: Option<&'a str>,
@@ -122,9 +108,12 @@ pub struct Plan<'a> {
     pub fates: Vec<Fate>,
     /// One for each contact and service.
     pub confirmations: Vec<Confirmation<'a>>,
+    /// How many of each.
     pub counts: Counts,
     /// The mark of the list that it was made against.
     pub mark: Mark,
+    text: &'a str,
+    rows: Vec<Row>,
 }
 
 /// Plans the import of a text against a list, two contacts being within `window` seconds.
@@ -133,40 +122,77 @@ pub struct Plan<'a> {
 /// use oxbreathe::plan::{Fate, Reason, plan};
 ///
 /// let text = b"<CALL:4>W1AW<QSO_DATE:8>20260301<TIME_ON:4>1200<BAND:3>40M<MODE:3>USB<EOR><QSO_DATE:8>20260301<EOR>";
-/// let plan = plan(text, &[1, 0, 0, 0, 0], 1800).unwrap();
+/// let plan = plan(text, &[1, 0, 0, 0, 0], 1800)?;
 /// assert_eq!(plan.fates, [Fate::Importable, Fate::Unusable(Reason::NoCall)]);
 /// assert_eq!(plan.summary(), "2 records · 1 to import · 1 unusable");
+/// # Ok::<(), oxbreathe::Refusal>(())
 /// ```
 pub fn plan<'a>(text: &'a [u8], list: &[u8], window: i64) -> Result<Plan<'a>, Refusal> {
     planned(text, list, window, false)
 }
 
 /// Plans what a download of confirmations would do: records that bear none are ignored.
+///
+/// ```
+/// use oxbreathe::contacts::{Contact, Service, Writer};
+/// use oxbreathe::plan::{Confirmation, Fate, plan_download};
+///
+/// let mut log = Writer::new();
+/// let (date, time) = ("20260301", "1200");
+/// log.append(&Contact { id: 7, call: "W1AW", date, time, band: "40m", mode: "SSB", ..Contact::default() })?;
+/// let text = b"<CALL:4>W1AW<QSO_DATE:8>20260301<TIME_ON:4>1201<BAND:3>40m<MODE:3>SSB<QSL_RCVD:1>Y<QSLRDATE:8>20260401<EOR>";
+/// let plan = plan_download(text, log.bytes(), 1800)?;
+/// assert_eq!(plan.fates, [Fate::Confirmed]);
+/// assert_eq!(plan.confirmations, [Confirmation { id: 7, service: Service::Qsl, date: Some("20260401") }]);
+/// # Ok::<(), oxbreathe::Refusal>(())
+/// ```
 pub fn plan_download<'a>(text: &'a [u8], list: &[u8], window: i64) -> Result<Plan<'a>, Refusal> {
     planned(text, list, window, true)
 }
 
 fn planned<'a>(text: &'a [u8], list: &[u8], window: i64, download: bool) -> Result<Plan<'a>, Refusal> {
     let mut tables = Tables::new(text, list);
-    let answer = tables.plan(text, list, window, download);
-    Refusal::told(answer.refusal, answer.place)?;
-    // Safe: the library is proved to refuse every text that is not UTF-8.
-    let text = unsafe { std::str::from_utf8_unchecked(text) };
-    let fate = |row: &Fated| Fate::numbered(row[0], row[1]).expect("a fate");
-    let confirmation = |&[low, high, bit, place, length]: &Confirmed| Confirmation {
-        id: (high as u64) << 32 | low as u64,
-        service: Service::with_bit(bit).expect("a service"),
-        date: (length > 0).then(|| &text[place as usize..(place + length) as usize]),
+    let answer = tables.plan(text, list, window, download).accepted()?;
+    // Safe: the text was accepted.
+    let text = unsafe { taken(text) };
+    let fate = |&[fate, reason, ..]: &Fated| Fate::numbered(fate, reason);
+    let confirmation = |&[low, high, bit, place, length]: &Confirmed| {
+        let date = part(text, place, length).filter(|date| !date.is_empty());
+        Some(Confirmation { id: joined(low, high), service: Service::numbered(bit)?, date })
     };
+    let Tables { mut rows, fates, confirmations, .. } = tables;
+    rows.truncate(answer.rows);
     Ok(Plan {
-        fates: tables.fates[..answer.records].iter().map(fate).collect(),
-        confirmations: tables.confirmations[..answer.confirmations].iter().map(confirmation).collect(),
+        fates: fates.iter().take(answer.records).filter_map(fate).collect(),
+        confirmations: confirmations.iter().take(answer.confirmations).filter_map(confirmation).collect(),
         counts: answer.counts,
         mark: Mark { contacts: answer.contacts, largest: answer.largest },
+        text,
+        rows,
     })
 }
 
-impl Plan<'_> {
+impl<'a> Plan<'a> {
+    /// The records, each with its fate.
+    ///
+    /// ```
+    /// let text = b"<CALL:4>W1AW <EOR> <CALL:4>G4ZZ <EOR>";
+    /// let plan = oxbreathe::plan::plan(text, &[1, 0, 0, 0, 0], 1800)?;
+    /// let told = |(record, fate): (oxbreathe::reading::Record, oxbreathe::plan::Fate)| {
+    ///     format!("{} {} {}", record.number(), record.field("CALL").unwrap_or("?"), fate.name())
+    /// };
+    /// assert_eq!(plan.records().map(told).collect::<Vec<_>>(), ["1 W1AW unusable", "2 G4ZZ unusable"]);
+    /// # Ok::<(), oxbreathe::Refusal>(())
+    /// ```
+    pub fn records(&self) -> impl Iterator<Item = (Record<'_>, Fate)> {
+        self.read().records().zip(self.fates.iter().copied())
+    }
+
+    /// What was read of the file.
+    pub fn read(&self) -> Read<'_> {
+        Read::new(self.text, &self.rows, self.fates.len())
+    }
+
     /// The plan in one line.
     pub fn summary(&self) -> String {
         summary(self.counts)
@@ -179,38 +205,45 @@ impl Plan<'_> {
 }
 
 /// Counts in one line.
+///
+/// ```
+/// use oxbreathe::plan::{Counts, summary};
+///
+/// let counts = Counts { total: 3, importable: 2, duplicates: 1, ..Counts::default() };
+/// assert_eq!(summary(counts), "3 records · 2 to import · 1 duplicate (skipped)");
+/// ```
 pub fn summary(counts: Counts) -> String {
     // seven numbers of at most 20 digits, and at most 128 bytes of words around them
     let mut out = [0; 268];
     let length = sys::plan_summary(counts, &mut out).length;
-    String::from_utf8_lossy(&out[..length]).into_owned()
+    String::from_utf8_lossy(out.get(..length).unwrap_or_default()).into_owned()
 }
 
 /// The tables that a plan works in, and leaves its answers in.
 #[derive(Clone, Debug)]
 pub struct Tables {
-    /// [`ROW`] numbers a field of the text.
-    pub rows: Vec<u32>,
-    pub index: Vec<Record>,
+    /// A row for each field of the text.
+    pub rows: Vec<Row>,
+    /// One for each contact of the list.
+    pub index: Vec<sys::Record>,
+    /// One for each record of the text.
     pub fates: Vec<Fated>,
+    /// One for each contact and service that is newly confirmed.
     pub confirmations: Vec<Confirmed>,
 }
 
 /// No more are read ([`Cause::TooManyRecords`](crate::Cause)).
 const MOST_RECORDS: usize = 65_535;
-/// The bytes of a contact whose call, band and mode are empty.
-const SHORTEST_CONTACT: usize = 28;
 
 impl Tables {
-    /// Large enough for any plan of this text against this list: a field is a tag, a record has one and, but for the last, ends in one
-    /// more, and each record and each contact has at most four confirmations.
+    /// Large enough for any plan of this text against this list: a record has a tag and, but for the last, ends in one more, whose name
+    /// is EOR; and each record and each contact has at most four confirmations.
     pub fn new(text: &[u8], list: &[u8]) -> Tables {
-        let tags = text.iter().filter(|&&b| b == b'<').count();
-        let records = tags.div_ceil(2).min(MOST_RECORDS);
-        let told = list.get(1..5).map_or(0, |count| count.iter().fold(0, |n, &b| n << 8 | b as usize));
-        let contacts = told.min(list.len() / SHORTEST_CONTACT);
+        let ends = text.windows(3).filter(|name| name.eq_ignore_ascii_case(b"EOR")).count();
+        let records = reading::tags(text).div_ceil(2).min(ends + 1).min(MOST_RECORDS);
+        let contacts = contacts::most(list);
         Tables {
-            rows: vec![0; tags * ROW],
+            rows: reading::table(text),
             index: vec![[0; 14]; contacts],
             fates: vec![[0; 28]; records],
             confirmations: vec![[0; 5]; 4 * records.min(contacts)],
@@ -220,6 +253,6 @@ impl Tables {
     /// The plan by its numbers. What the tables held before does not matter.
     pub fn plan(&mut self, text: &[u8], list: &[u8], window: i64, download: bool) -> PlanAnswer {
         let Tables { rows, index, fates, confirmations } = self;
-        sys::plan([text, list], window, download, rows, index, fates, confirmations)
+        sys::plan(text, list, window, download, rows.as_flattened_mut(), index, fates, confirmations)
     }
 }

@@ -10,6 +10,9 @@ mod reading;
 mod text;
 mod writing;
 
+#[cfg(original)]
+pub use model::COLUMNS;
+
 use crate::generate::Random;
 use crate::harness::{Group, Input, Run};
 use crate::notation::Argument;

@@ -4,8 +4,8 @@ use super::{Area, Operation, Question, told};
 use crate::generate::Random;
 use crate::notation::Argument::{self, Text};
 use crate::notation::bars;
-use oxbreathe::contact::{COLUMNS, Column, Contact};
-use oxbreathe::reading::{self, ROW};
+use oxbreathe::qso::{Column, Qso};
+use oxbreathe::reading;
 use std::borrow::Cow;
 
 pub const AREA: Area = Area {
@@ -26,6 +26,12 @@ pub const AREA: Area = Area {
     ],
     questions,
 };
+
+/// The columns of a contact, by their numbers.
+pub const COLUMNS: [&str; 13] = [
+    "CALL", "QSO_DATE", "TIME_ON", "BAND", "MODE", "SUBMODE", "FREQ", "FREQ_RX", "BAND_RX", "RST_SENT", "RST_RCVD",
+    "GRIDSQUARE", "DXCC",
+];
 
 /// A contact as both sides tell it.
 struct Told {
@@ -49,20 +55,16 @@ fn shown(told: Told) -> String {
 
 // The library's answers.
 
-/// Fields of a record at most.
-const FIELDS: usize = 20;
-
 /// Of the text's one record, mapped, and its refusal or 0.
-fn mapped(a: &[Argument], show: impl FnOnce(Contact, u32) -> String) -> String {
-    let mut table = [0; FIELDS * ROW];
-    let read = reading::read(a[0].text(), &mut table).map_err(|unread| unread.refusal);
-    told(read, |read| match read.contacts().next() {
-        Some((contact, refusal)) => show(contact, refusal.map_or(0, |refusal| refusal.cause.number())),
+fn mapped(a: &[Argument], show: impl FnOnce(Qso, u32) -> String) -> String {
+    let mut table = reading::table(a[0].text());
+    told(reading::read(a[0].text(), &mut table), |read| match read.records().next().map(|record| record.qso()) {
+        Some((contact, refusal)) => show(contact, refusal.map_or(0, |refusal| refusal.number())),
         None => "no record".to_string(),
     })
 }
 
-fn contact(contact: Contact, refusal: u32) -> String {
+fn contact(contact: Qso, refusal: u32) -> String {
     let of = |column| contact.column(column);
     let columns = [
         Some(contact.call()),
@@ -84,7 +86,7 @@ fn contact(contact: Contact, refusal: u32) -> String {
         columns: columns.map(|column| column.map(Cow::into_owned)),
         hertz: [contact.freq_hz(), contact.freq_rx_hz()],
         dxcc: contact.dxcc(),
-        extra: contact.extra().map(|(name, value)| (name, value.to_string())).collect(),
+        extra: contact.extra().map(|field| (field.name.to_ascii_uppercase(), field.value.to_string())).collect(),
     })
 }
 
@@ -93,13 +95,13 @@ fn map(a: &[Argument]) -> String {
 }
 
 fn normal(a: &[Argument]) -> String {
-    mapped(a, |mapped, refusal| contact(mapped.normalize(), refusal))
+    mapped(a, |mapped, refusal| told(mapped.normalize(), |normal| contact(normal, refusal)))
 }
 
 fn qso(a: &[Argument]) -> String {
-    mapped(a, |mapped, refusal| match mapped.normalize().write(&mut [0; 2_000]) {
-        Ok(text) => format!("{refusal} {}", bars(text)),
-        Err(refused) => refused.cause.number().to_string(),
+    mapped(a, |mapped, refusal| match mapped.normalize().and_then(|normal| normal.to_vec()) {
+        Ok(text) => format!("{refusal} {}", bars(&text)),
+        Err(refused) => refused.number().to_string(),
     })
 }
 

@@ -68,7 +68,7 @@ fn ours(a: &[Argument]) -> String {
 }
 
 fn fates(plan: &plan::Plan) -> Vec<[u32; 2]> {
-    plan.fates.iter().map(|fate| [fate.number(), fate.reason()]).collect()
+    plan.fates.iter().map(|fate| [fate.number(), fate.reason().map_or(0, plan::Reason::number)]).collect()
 }
 
 fn counts(a: &[Argument]) -> Counts {

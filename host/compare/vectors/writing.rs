@@ -30,12 +30,18 @@ pub const AREA: Area = Area {
         Operation {
             name: "export",
             theirs: |a| shown(a, strs(texts(a)).and_then(|texts| fitting(export_header(texts), room(a)))),
-            ours: |a| answered(a, |out| sys::export_header(texts(a), out)),
+            ours: |a| {
+                let [version, program, created] = texts(a);
+                answered(a, |out| sys::export_header(version, program, created, out))
+            },
         },
         Operation {
             name: "station",
             theirs: |a| shown(a, strs(texts(a)).and_then(|texts| fitting(station_fields(texts), room(a)))),
-            ours: |a| answered(a, |out| sys::station_fields(texts(a), out)),
+            ours: |a| {
+                let [call, grid, name, state, county, cq, itu] = texts(a);
+                answered(a, |out| sys::station_fields(call, grid, name, state, county, cq, itu, out))
+            },
         },
     ],
     questions,

@@ -1,0 +1,47 @@
+#!/bin/sh
+# Tests the C programs that host.sh built: host/importer/test.sh FOLDER [EMULATOR]. On the samples `preview` prints what
+# showplan prints, with words behind it.
+set -u
+here=$(cd "$(dirname "$0")" && pwd -P)
+cd "$here/../.." || exit 1
+programs=$1
+shift
+run=$*
+passed=0 failed=0
+
+program() {
+    name=$1
+    shift
+    $run "$programs/$name" "$@"
+}
+# counted WHAT COMMAND..: one that passes, or fails
+counted() {
+    what=$1
+    shift
+    if "$@"; then
+        passed=$((passed + 1))
+    else
+        failed=$((failed + 1))
+        echo "importer: $what failed"
+    fi
+}
+# checks NAME ARGUMENT..: those that a program makes and counts itself
+checks() {
+    told=$(program "$@")
+    echo "$1: $told"
+    # shellcheck disable=SC2046
+    set -- $(echo "$told" | sed -n 's/^\([0-9]*\) passed, \([0-9]*\) failed$/\1 \2/p')
+    passed=$((passed + ${1:-0})) failed=$((failed + ${2:-1}))
+}
+again() { program preview samples/club.adi samples/club.adi | cmp - "$here/club_again.txt"; }
+shown() {
+    program preview "$1" | sed 's/^\([0-9]* unusable [0-9]\) (.*)$/\1/; s/^\(refused [0-9]*\):.*/\1/' | cmp - "${1%.adi}.txt"
+}
+
+checks examples
+checks preview --self-test
+counted 'the header in C++' program cpp
+counted 'a log against itself' again
+for text in samples/plans/*.adi; do counted "$text" shown "$text"; done
+echo "importer: $passed passed, $failed failed"
+[ "$failed" = 0 ]
