@@ -51,14 +51,7 @@ fn first_fate(row: [u32; 28], download: bool) -> u32
     )
 }
 
-fn fate_in(
-    text: &[u8],
-    rows: &[[u32; 28]],
-    n: usize,
-    k: usize,
-    limit: u64,
-    download: bool,
-) -> u32
+fn fate_in(text: &[u8], rows: &[[u32; 28]], n: usize, k: usize, limit: u64, download: bool) -> u32
     requires { ⌜ Chained (now text) n k (now rows) × (k < n) ⌝ }
     ensures { λ r. ⌜ r ≡ fateIn (now (text .entry)) limit download (now (rows .entry)) k ⌝ }
 {
@@ -115,14 +108,7 @@ fn put_fate(rows: &mut [[u32; 28]], k: usize, fate: u32)
 }
 
 // Record k gets its fate, and an importable one goes into its chain.
-fn settle_one(
-    text: &[u8],
-    limit: u64,
-    download: bool,
-    rows: &mut [[u32; 28]],
-    n: usize,
-    k: usize,
-)
+fn settle_one(text: &[u8], limit: u64, download: bool, rows: &mut [[u32; 28]], n: usize, k: usize)
     requires { ⌜ Chained (now text) n k (now rows) × (k < n) × (n < 4294967296) ⌝ }
     ensures { λ _. ⌜ Step (now (text .entry)) limit download n k (now (rows .entry)) (now (rows .exit)) ⌝ }
 {
