@@ -1,0 +1,4 @@
+pub mod FillLaws
+pub mod ChainLaws
+pub mod BuildLaws
+pub mod Determined
