@@ -5,14 +5,13 @@ use Prim.Native.Nat.{ℕ, zero, suc, _+_, _-_, _≤_, _<_}
 use native.Mathlib.Nat.{zero-add}
 use native.Mathlib.Omega.{arith}
 use lib.ListN.{length, getD, take, drop, replicate, length-replicate}
-use lib.Seq.{sets, sets-eq}
+use lib.Seq.{sets, sets-eq, length-sets, take-append-seam}
 use lib.Dec.{ltb}
 use borrow.Author.Tests.{lt-ltb, le-ltb, ltb-false}
 use Rattle.text.proofs.BoolLaws.{cases}
 use Rattle.refusals.specs.declared.Refusal.{Refusal}
 use Rattle.refusals.specs.declared.Refusal.the-variants.{ShortTable}
 use Rattle.contacts.specs.Lists.{countOf, listedAs, Few}
-use Rattle.chain.proofs.Fronts.{clear-all}
 use Rattle.contacts.specs.declared.Listed.{Listed}
 use Rattle.contacts.specs.declared.Listed.the-variants.{Marked, Refused}
 use Rattle.contacts.proofs.ListLaws.{accepted, marked-refused}
@@ -92,18 +91,28 @@ unfolding countIn
 few-some (Refused why) f = omega arith
 few-some (Marked n top) f = f
 
-rows-some : (s : List ℕ) (m : ℕ) (l : Listed) → indexedAs s m ≡ l → (rows : List Row) → rows ≡ replicate m noRow → chained (countIn l) (countIn l) (sets rows 0 (rowsFrom s (countIn l) 5)) ≡ indexBy l s m
-unfolding countIn indexBy indexOf bareOf chained rowsFrom
-rows-some s m (Refused why) e rows z = z
-rows-some s m (Marked n top) e rows z =
+-- the records of the contacts, and zero behind them
+laid : (w was : List Row) (n m : ℕ) → length w ≡ n → length was ≡ m → n ≤ m
+    → take n (sets was 0 w) ++ replicate (length (sets was 0 w) - n) noRow ≡ w ++ replicate (m - n) noRow
+laid w was n m ew em h =
+    let z : 0 + length w ≡ length w = zero-add (length w) in
+    let b : sets was 0 w ≡ w ++ drop (0 + length w) was = sets-eq w was 0 (omega arith) in
+    let t : take n (sets was 0 w) ≡ w = rw (b, ← ew) (take-append-seam w (drop (0 + length w) was)) in
+    let l : length (sets was 0 w) ≡ m = length-sets was 0 w ∙ em in
+    rw (t, l) refl
+
+none : (s : List ℕ) (m : ℕ) → rowsFrom s 0 5 ++ replicate (m - 0) noRow ≡ replicate m noRow
+unfolding rowsFrom
+none s m = let y : m - 0 ≡ m = omega arith in rw y refl
+
+rows-some : (s : List ℕ) (m : ℕ) (l : Listed) → indexedAs s m ≡ l → (was : List Row) → length was ≡ m
+    → chained (countIn l) (countIn l) (take (countIn l) (sets was 0 (rowsFrom s (countIn l) 5)) ++ replicate (length (sets was 0 (rowsFrom s (countIn l) 5)) - countIn l) noRow) ≡ indexBy l s m
+unfolding countIn indexBy indexOf bareOf chained
+rows-some s m (Refused why) e was z =
+    laid (rowsFrom s 0 5) was 0 m (length-rows s 0 5) z (omega arith) ∙ none s m
+rows-some s m (Marked n top) e was z =
     let c : n ≡ countOf s = accepted s n top (indexed-listed s m n top e) .count in
-    let w : List Row = rowsFrom s n 5 in
-    let k : 0 + length w ≡ n = zero-add (length w) ∙ length-rows s n 5 in
-    let f : n ≤ m = indexed-fits s m n top e in
-    let r : length rows ≡ m = ap length z ∙ length-replicate m noRow in
-    let b : sets rows 0 w ≡ w ++ replicate (m - n) noRow =
-    sets-eq w rows 0 (omega arith) ∙ ap (λ (x : List Row). w ++ x) (rw (k, z) (drop-replicate n m noRow)) in
-    rw (← c, b) refl
+    rw (laid (rowsFrom s n 5) was n m (length-rows s n 5) z (indexed-fits s m n top e)) (rw (← c) refl)
 
 module _ (s : List ℕ) (m : ℕ) (l : Listed) (el : l ≡ indexedAs s m) (n : ℕ) (en : n ≡ countIn l) where
   pub index-sound : 0 < n → Sound s n
@@ -115,8 +124,8 @@ module _ (s : List ℕ) (m : ℕ) (l : Listed) (el : l ≡ indexedAs s m) (n : �
   pub index-few : Few l → n < 4294967296
   index-few f = rw en (few-some l f)
 
-  pub index-done : (was cleared filled last : List Row) → m ≡ length was → cleared ≡ sets was 0 (replicate m noRow) → filled ≡ sets cleared 0 (rowsFrom s n 5) → last ≡ chained n n filled → last ≡ indexAfter s m
+  pub index-done : (was filled cleared last : List Row) → m ≡ length was → filled ≡ sets was 0 (rowsFrom s n 5)
+      → cleared ≡ take n filled ++ replicate (length filled - n) noRow → last ≡ chained n n cleared → last ≡ indexAfter s m
   unfolding indexAfter
-  index-done was cleared filled last em ec ef e =
-      let z : cleared ≡ replicate m noRow = clear-all noRow m was cleared em ec ∙ ap (λ (k : ℕ). replicate k noRow) (sym em) in
-      e ∙ rw (ef, en) (rows-some s m l (sym el) cleared z) ∙ ap (λ (x : Listed). indexBy x s m) el
+  index-done was filled cleared last em ef ec e =
+      e ∙ rw (ec, ef, en) (rows-some s m l (sym el) was (sym em)) ∙ ap (λ (x : Listed). indexBy x s m) el

@@ -1,8 +1,9 @@
 // The contact index built: a lent record a contact, in chains along which `search` finds it. A list is checked whole before its index
 // is built.
 ghost use mathlib.Core.Path.{_≡_};
-ghost use Prim.Native.Nat.{_≤_, _<_};
-ghost use lib.ListN.{length, getD, replicate};
+ghost use mathlib.Core.List.{_++_};
+ghost use Prim.Native.Nat.{_≤_, _<_, _-_};
+ghost use lib.ListN.{length, getD, take, replicate};
 ghost use lib.Seq.{sets};
 ghost use Rattle.contacts.specs.Lists.{Few};
 ghost use Rattle.index.specs.Rows.{rowsFrom, noRow};
@@ -23,6 +24,18 @@ pub fn clear(rows: &mut [[u32; 14]], to: usize)
 {
     let mut i = 0;
     while i < to {
+        rows[i] = no_row();
+        i += 1;
+    }
+}
+
+// The records from `from` on are zero, the others as they were.
+fn clear_rest(rows: &mut [[u32; 14]], from: usize)
+    requires { ⌜ from ≤ length (now rows) ⌝ }
+    ensures { λ _. ⌜ now (rows .exit) ≡ take from (now (rows .entry)) ++ replicate (length (now (rows .entry)) - from) noRow ⌝ }
+{
+    let mut i = from;
+    while i < rows.len() {
         rows[i] = no_row();
         i += 1;
     }
@@ -140,11 +153,10 @@ pub fn build(list: &[u8], rows: &mut [[u32; 14]]) -> Listed
     ensures { λ r. ⌜ r ≡ indexedAs (now (list .entry)) (length (now (rows .entry))) ⌝ }
     ensures { λ _. ⌜ now (rows .exit) ≡ indexAfter (now (list .entry)) (length (now (rows .entry))) ⌝ }
 {
-    let records = rows.len();
-    clear(rows, records);
-    let listed = listed_in(list, records);
+    let listed = listed_in(list, rows.len());
     let n = count_in(listed);
     fill(list, rows, n);
+    clear_rest(rows, n);
     link(rows, n);
     listed
 }
