@@ -68,16 +68,9 @@ fn list(count: usize) -> Vec<u8> {
     for i in 0..count {
         let (call, date) = (format!("W{}A{}", i % 10, i / 10), format!("2026{:02}{:02}", i / 28 % 12 + 1, i % 28 + 1));
         let time = format!("{:02}{:02}00", i % 24, i % 60);
-        let contact = sys::Contact {
-            id: i as u64 + 1,
-            services: (i % 16) as u8,
-            call: call.as_bytes(),
-            date: date.as_bytes(),
-            time: time.as_bytes(),
-            band: b"20m",
-            mode: b"SSB",
-        };
-        used = sys::contacts_append(&mut out, used, i, i as u64, contact).length;
+        let (id, services) = (i as u64 + 1, (i % 16) as u8);
+        let [call, date, time] = [&call, &date, &time].map(|text| text.as_bytes());
+        used = sys::contacts_append(&mut out, used, i, i as u64, id, services, call, date, time, b"20m", b"SSB").length;
     }
     out.truncate(used);
     out
@@ -148,14 +141,15 @@ fn records() -> Vec<Taken> {
     let normal = sys::normalize_qso(text, raw).qso;
     let extra: Vec<u32> = (0..200).flat_map(|i| [1, table[i * 5 + 1], table[i * 5 + 2], table[i * 5 + 3], 1]).collect();
     let long = "é".repeat(1 << 18);
+    let long = long.as_bytes();
     let (mut out, mut again) = (vec![0; 4 << 20], vec![0; 5 * 20_000]);
     let two = |test: fn(&[u8], Qso, &[u8], Qso) -> sys::Told| move || test(text, raw, text, normal);
     vec![
         taken("ox_read", || sys::read(text, &mut again)),
         taken("ox_write", || sys::write(text, &table, read.rows, &mut out)),
         taken("ox_journal_header", || sys::journal_header(&mut out)),
-        taken("ox_export_header", || sys::export_header([long.as_bytes(); 3], &mut out)),
-        taken("ox_station_fields", || sys::station_fields([long.as_bytes(); 7], &mut out)),
+        taken("ox_export_header", || sys::export_header(long, long, long, &mut out)),
+        taken("ox_station_fields", || sys::station_fields(long, long, long, long, long, long, long, &mut out)),
         taken("ox_in_log", two(sys::in_log)),
         taken("ox_in_file", two(sys::in_file)),
         taken("ox_same_natural_key", two(sys::same_natural_key)),
@@ -176,15 +170,6 @@ fn contacts() -> Vec<Taken> {
     let mut tables = oxbreathe::plan::Tables::new(text.as_bytes(), &list);
     let mut out = list.clone();
     out.resize(list.len() + 100, 0);
-    let contact = sys::Contact {
-        id: u64::MAX >> 1,
-        services: 15,
-        call: b"W1AW",
-        date: b"20260301",
-        time: b"1200",
-        band: b"40m",
-        mode: b"CW",
-    };
     let counts = Counts {
         total: u64::MAX,
         importable: u64::MAX,
@@ -200,7 +185,22 @@ fn contacts() -> Vec<Taken> {
         taken("ox_contacts_index", || sys::contacts_index(&list, &mut index)),
         taken("ox_contacts_search", || sys::contacts_search(&list, &list, 1800, &mut index, &mut found)),
         taken("ox_contacts_start", || sys::contacts_start(&mut [0; 5])),
-        taken("ox_contacts_append", || sys::contacts_append(&mut out, list.len(), 10_000, 10_000, contact)),
+        taken("ox_contacts_append", || {
+            let id = u64::MAX >> 1;
+            sys::contacts_append(
+                &mut out,
+                list.len(),
+                10_000,
+                10_000,
+                id,
+                15,
+                b"W1AW",
+                b"20260301",
+                b"1200",
+                b"40m",
+                b"CW",
+            )
+        }),
         taken("ox_plan", || {
             let answer = tables.plan(text.as_bytes(), &list, 1800, false);
             assert_eq!(answer.refusal, 0);
