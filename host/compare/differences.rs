@@ -175,7 +175,7 @@ fn lists(g: &mut Group) {
 /// The fate and the reason of each record here, and how many records the original would import.
 fn planned(text: &str, window: i64) -> (Vec<[u32; 2]>, usize) {
     let mut fates = [[7; 28]; 2];
-    let answer = sys::plan([text.as_bytes(), &EMPTY], window, false, &mut [0; 5 * 16], &mut [], &mut fates, &mut []);
+    let answer = sys::plan(text.as_bytes(), &EMPTY, window, false, &mut [0; 5 * 16], &mut [], &mut fates, &mut []);
     let ours = fates[..answer.records].iter().map(|row: &Fated| [row[0], row[1]]).collect();
     let theirs = import::plan(&Connection::plain(vec![]), text, window).expect("a plan");
     (ours, theirs.importable.len())
@@ -191,6 +191,6 @@ fn planning(g: &mut Group) {
     g.same(&*leap, planned(&leap, 1), (vec![[1, 0], [1, 0]], 1));
     let (mut table, mut index) = ([7; 40], [[7; 14]; 1]);
     let text = record("120000", "");
-    let answer = sys::plan([text.as_bytes(), &EMPTY], 0, false, &mut table, &mut index, &mut [], &mut []);
+    let answer = sys::plan(text.as_bytes(), &EMPTY, 0, false, &mut table, &mut index, &mut [], &mut []);
     g.same(&*text, (answer.refusal, table == [0; 40], index), (19, true, [[0; 14]]));
 }
