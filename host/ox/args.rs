@@ -176,11 +176,11 @@ fn rewrite(args: Vec<OsString>) -> Result<Command, String> {
 const HELP: &str = "\
 ox: what importing a log file (ADIF) would do, before anything is imported
 
-  ox preview FILE        the fate of each record: to import, duplicate, confirmed, unusable
-  ox list FROM.adi OUT   makes a contact list of a log, for preview's --log
-  ox list show LIST      prints a contact list
-  ox fresh PLAN.json LIST  tells whether a saved preview still holds against a list
-  ox rewrite IN OUT      reads a file, normalises its contacts and writes them back
+  ox preview FILE           the fate of each record: to import, duplicate, confirmed, unusable
+  ox list FROM.adi OUT      makes a contact list of a log, for preview's --log
+  ox list show LIST         prints a contact list
+  ox fresh PLAN.json LIST   tells whether a saved preview still holds against a list
+  ox rewrite IN OUT         reads a file, normalises its contacts and writes them back
 
 ox COMMAND --help tells more, with an example.
 Exit status: 0 done, 1 refused or not fresh, 2 bad usage or a file that cannot be read or written.

@@ -37,7 +37,7 @@ pub fn page(shown: &Shown) -> String {
         "<!DOCTYPE html>\n<html lang=\"en\">\n<head>\n<meta charset=\"utf-8\">\n\
          <meta name=\"viewport\" content=\"width=device-width\">\n<title>Preview of {file}</title>\n\
          <style>\n{STYLE}</style>\n</head>\n<body>\n<h1>Preview of {file}</h1>\n\
-         <p class=\"summary\">{}</p>\n<p>{}. Window: {} seconds. A preview of the {kind}: nothing was changed.</p>\n",
+         <p class=\"summary\">{}</p>\n<p>A preview of the {kind}, {}; window {} seconds. Nothing was changed.</p>\n",
         escaped(&shown.plan.summary()),
         escaped(&shown.log()),
         shown.asked.window,

@@ -155,7 +155,6 @@ impl Shown<'_> {
         let mark = self.plan.mark;
         object.put("mark", &inline(&[("contacts", mark.contacts.to_string()), ("largest", mark.largest.to_string())]));
         object.put("counts", &inline(&counts(self.plan.counts).map(|(name, count)| (name, count.to_string()))));
-        object.put("summary", &quoted(&self.plan.summary()));
         let record = |record: &Record| {
             inline(&[
                 ("number", record.number.to_string()),
@@ -179,6 +178,7 @@ impl Shown<'_> {
             ])
         };
         object.put("confirmations", &array(self.confirmations.iter().map(confirmation)));
+        object.put("summary", &quoted(&self.plan.summary()));
         object.end()
     }
 }

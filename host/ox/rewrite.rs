@@ -19,7 +19,8 @@ pub fn run(from: &Path, out: &Out) -> Result<Said, Failure> {
     for record in file.records() {
         let (qso, refusal) = record.normal_qso();
         let bytes = refusal.map_or(qso.to_vec(), Err).map_err(|why| {
-            Failure::Refused(format!("{}: record {}: {why}\n", from.display(), record.number()), None)
+            let (path, number) = (from.display(), record.number());
+            Failure::Refused(format!("{path}: record {number}: refused {}: {}\n", why.number(), why.cause.name()), None)
         })?;
         written.extend(bytes);
         for (name, value) in dropped(&record, &qso) {
