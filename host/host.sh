@@ -334,6 +334,7 @@ ox() {
 ox_test() {
     ox
     crate largest 2024 "$host/ox/largest.rs" -D warnings --extern oxbreathe="$to/liboxbreathe.rlib"
+    # shellcheck disable=SC2086
     "$host/ox/test.sh" "$to" $run
 }
 # linked NAME OPTION.. FILE..: a program of C, in $to

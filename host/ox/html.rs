@@ -65,7 +65,7 @@ fn bar(shown: &Shown) -> String {
         let count = shown.plan.fates.iter().filter(|fate| fate.name() == name).count();
         if count > 0 {
             parts += &format!(
-                "<div class=\"{name}\" data-fate=\"{name}\" style=\"flex-grow:{count}\"><b>{count}</b> {name}</div>\n"
+                "<div class=\"{name}\" data-fate=\"{name}\" style=\"flex:{count} 1 0\"><b>{count}</b> {name}</div>\n"
             );
         }
     }
@@ -90,14 +90,15 @@ const STYLE: &str = "\
 body { font: 15px/1.4 system-ui, sans-serif; color: #1c1c1c; background: #fff; max-width: 60rem; margin: 2rem auto; padding: 0 1rem; }
 h1 { font-size: 1.4rem; margin: 0; } h2 { font-size: 1.1rem; margin: 2rem 0 .5rem; }
 .summary { font-size: 1.1rem; font-weight: 600; margin: .3rem 0; }
-#bar { display: flex; gap: 2px; margin: 1rem 0; }
+#bar { display: flex; flex-wrap: wrap; gap: 2px; margin: 1rem 0; }
 #bar div { padding: .4rem .6rem; min-width: max-content; border-radius: 3px; }
-#bar.live div { cursor: pointer; } #bar div.off { opacity: .3; text-decoration: line-through; }
+#bar div.off { opacity: .3; text-decoration: line-through; }
 #filter { font: inherit; padding: .3rem .5rem; width: 16rem; margin-bottom: .5rem; }
 table { border-collapse: collapse; width: 100%; font-variant-numeric: tabular-nums; }
-th { text-align: left; border-bottom: 2px solid #555; padding: .25rem .5rem; } th.live { cursor: pointer; }
+th { text-align: left; border-bottom: 2px solid #555; padding: .25rem .5rem; }
+.live { cursor: pointer; }
 th.up::after { content: ' \\25b2'; } th.down::after { content: ' \\25bc'; }
-td { padding: .2rem .5rem; border-bottom: 1px solid #fff; overflow-wrap: anywhere; } td:first-child { text-align: right; }
+td { padding: .2rem .5rem; border-bottom: 1px solid #fff; overflow-wrap: anywhere; } td:first-child, th:first-child { text-align: right; }
 .importable { background: #d8f0d8; } .duplicate-in-log { background: #ffe9b3; } .duplicate-in-file { background: #fff3cf; }
 .unusable { background: #f8d0d0; } .confirmed { background: #cfe8f7; } .unmatched { background: #e8d8f2; } .ignored { background: #e6e6e6; }
 @media print { body { margin: 0; max-width: none; font-size: 11px; } #filter { display: none; } thead { display: table-header-group; }
@@ -120,16 +121,20 @@ function filter() {
   }
 }
 box.addEventListener('input', filter);
-const bar = document.getElementById('bar');
-bar.classList.add('live');
-for (const part of bar.children) part.addEventListener('click', () => {
+function live(element, act) {
+  element.classList.add('live');
+  element.tabIndex = 0;
+  element.addEventListener('click', act);
+  element.addEventListener('keydown', event => { if (event.key === 'Enter') act(); });
+}
+for (const part of document.getElementById('bar').children) live(part, () => {
   const fate = part.dataset.fate;
-  part.classList.toggle('off', !off.delete(fate) && off.add(fate));
+  if (!off.delete(fate)) off.add(fate);
+  part.classList.toggle('off', off.has(fate));
   filter();
 });
 [...table.tHead.rows[0].cells].forEach((head, column) => {
-  head.classList.add('live');
-  head.addEventListener('click', () => {
+  live(head, () => {
     const down = head.classList.contains('up');
     for (const other of table.tHead.rows[0].cells) other.classList.remove('up', 'down');
     head.classList.add(down ? 'down' : 'up');

@@ -55,7 +55,7 @@ session() {
 }
 for file in "$here"/sessions/*.txt; do session "$file"; done
 # the stories that the papers tell are sessions too
-for paper in samples/README.md; do
+for paper in samples/README.md README.md; do
     awk '/^```/ {inside = $0 == "```console"; next} inside' "$root/$paper" >story
     counted "a story in $paper" grep -q '^\$ ' story
     session story
@@ -146,6 +146,37 @@ any_list() {
     done
 }
 counted 'a list cut anywhere' any_list
+
+# ---- the manual page and the completion
+
+# each option and fate that the help names
+known() {
+    for command in preview list fresh rewrite; do ox $command --help; done | grep -o -e '--[a-z]\+' | sort -u
+    ox preview samples/club.adi --only none 2>&1 | sed -n 's/.*there are //p' | tr -d , | tr ' ' '\n'
+}
+documented() {
+    known >names
+    sed 's/\\-/-/g' "$here/ox.1" >page
+    [ "$(wc -l <names)" = 14 ] || return 1
+    while read -r name; do
+        for place in page "$here/ox.bash"; do
+            grep -qw -e "$name" "$place" || { echo "$name is not in $place"; return 1; }
+        done
+    done <names
+}
+counted 'what the help names is in the manual page and the completion' documented
+# completes WORDS CHOICES: the last word, of which nothing or its start stands there
+completes() {
+    told=$(cd "$root/samples/plans" && bash -c ". '$here/ox.bash'; COMP_WORDS=($1); COMP_CWORD=\$((\${#COMP_WORDS[@]} - 1)); _ox; echo \"\${COMPREPLY[*]}\"")
+    [ "$told" = "$2" ] || { echo "$1: $told"; return 1; }
+}
+counted 'a command completed' completes "ox ''" 'preview list fresh rewrite --help'
+counted 'a file completed' completes 'ox preview 01.a' '01.adi'
+counted 'an option completed' completes 'ox preview 01.adi --wi' '--window'
+counted 'a fate completed' completes 'ox preview 01.adi --only un' 'unusable unmatched'
+counted 'a second fate completed' completes 'ox preview 01.adi --only unusable dup' 'duplicate-in-log duplicate-in-file'
+counted 'a list completed' completes 'ox preview 01.adi --log 02.t' '02.txt'
+counted 'show completed' completes 'ox list sh' 'show'
 
 echo "ox: $passed passed, $failed failed"
 [ "$failed" = 0 ]
