@@ -235,8 +235,8 @@ const REWRITE: &str = "\
 ox rewrite IN OUT [--force]
 
 Reads the records of IN and writes them to OUT, modes and bands as ADIF names them, names of fields in capitals and in order, a
-record a line. The header and the comments of IN are not kept. A field that a contact cannot hold (a FREQ that is no number) is
-left out, and named.
+record a line. The header and the comments of IN are not kept. What a contact cannot hold (a FREQ that is no number) is left
+out, and named.
 
   --force   lets OUT be overwritten
 

@@ -36,8 +36,13 @@ pub struct Out {
 }
 
 impl Out {
-    /// Whether it may be written, asked before any work is done.
-    pub fn check(&self) -> Result<(), Failure> {
+    /// Whether it may be written, asked before any work is done. What is read is never overwritten.
+    pub fn check(&self, read: &[&Path]) -> Result<(), Failure> {
+        let same =
+            |path: &&Path| path.canonicalize().is_ok_and(|path| self.path.canonicalize().is_ok_and(|out| out == path));
+        if read.iter().any(same) {
+            return Err(Failure::File(format!("{} is read, and cannot be the output", self.path.display())));
+        }
         if !self.force && self.path.symlink_metadata().is_ok() {
             return Err(Failure::File(format!("{} is there already; --force overwrites it", self.path.display())));
         }
@@ -46,7 +51,7 @@ impl Out {
 
     /// Written beside, and renamed when it is whole: there is never half of it under its name.
     pub fn write(&self, bytes: &[u8]) -> Result<(), Failure> {
-        self.check()?;
+        self.check(&[])?;
         let mut beside = self.path.clone().into_os_string();
         beside.push(format!(".{}.new", std::process::id()));
         let beside = PathBuf::from(beside);

@@ -19,7 +19,7 @@ pub fn marked(mark: Mark) -> String {
 /// Makes a list of a log: its usable records, each with its number as its id. Who confirmed a contact is what a download of the log itself
 /// would confirm in the list.
 pub fn make(from: &Path, out: &Out) -> Result<Said, Failure> {
-    out.check()?;
+    out.check(&[from])?;
     let log = files::read(from)?;
     let plan = refused::of(from, &log, plan(&log, Writer::new().bytes(), 0))?;
     let mut said = String::new();

@@ -8,6 +8,7 @@ use crate::{Failure, Said, done, files, html};
 use oxbreathe::contacts::{self, Contact, List, Writer};
 use oxbreathe::plan::{Confirmation, Counts, Fate, Plan, plan, plan_download};
 use std::borrow::Cow;
+use std::path::PathBuf;
 
 /// A record as it is compared, with its fate.
 pub struct Record<'a> {
@@ -39,7 +40,8 @@ pub struct Shown<'a> {
 
 pub fn run(asked: &Preview, coloured: bool) -> Result<Said, Failure> {
     if let Form::Html(out) = &asked.form {
-        out.check()?;
+        let read: Vec<_> = std::iter::once(&asked.file).chain(&asked.log).map(PathBuf::as_path).collect();
+        out.check(&read)?;
     }
     let file = files::read(&asked.file)?;
     let log = asked.log.as_ref().map_or(Ok(Writer::new().bytes().to_vec()), |path| files::read(path))?;

@@ -31,11 +31,11 @@ impl Spot {
     fn of(bytes: &[u8], meant: Range<usize>) -> Option<Spot> {
         let before = bytes.get(..meant.start)?;
         let start = before.iter().rposition(|&byte| byte == b'\n').map_or(0, |newline| newline + 1);
-        let end =
-            bytes.iter().skip(meant.start).position(|&byte| byte == b'\n').map_or(bytes.len(), |n| n + meant.start);
+        let rest = bytes.get(meant.start..)?.split(|&byte| byte == b'\n').next()?;
+        let end = meant.start + rest.strip_suffix(b"\r").unwrap_or(rest).len();
         let characters = |part: Range<usize>| {
             let part = String::from_utf8_lossy(bytes.get(part).unwrap_or_default());
-            table::plain(part.trim_end_matches('\r')).chars().collect::<Vec<_>>()
+            table::plain(&part).chars().collect::<Vec<_>>()
         };
         let (left, right) = (characters(start..meant.start), characters(meant.start..end));
         let width = characters(meant.start..meant.end.min(end)).len().clamp(1, BEHIND);

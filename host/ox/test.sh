@@ -89,6 +89,7 @@ refuses() {
 counted 'a file that is too long' refuses 1 preview long.adi
 counted 'a list that is too long' refuses 1 preview samples/club.adi --log long.adi
 counted 'a log that is too long' refuses 1 list long.adi long.list
+counted 'a file that gets too long' refuses 1 rewrite full.adi longer.adi
 counted 'an endless file' refuses 1 preview /dev/zero
 closed() {
     { ox preview full.adi; echo $? >status; } 2>err | head -n 1 >out
