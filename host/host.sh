@@ -326,14 +326,14 @@ ox() {
     to=$out/ox
     mkdir -p "$to"
     crate oxbreathe 2024 "$host/oxbreathe/lib.rs" --crate-type rlib -L "native=$archive"
-    crate ox 2024 "$host/ox/main.rs" -D warnings --extern oxbreathe="$to/liboxbreathe.rlib"
+    crate ox 2024 "$host/ox/main.rs" --extern oxbreathe="$to/liboxbreathe.rlib"
     mkdir -p "$root/target"
     printf '#!/bin/sh\nexec %s"%s" "$@"\n' "${run:+\"$run\" }" "$to/ox" >"$root/target/ox"
     chmod +x "$root/target/ox"
 }
 ox_test() {
     ox
-    crate largest 2024 "$host/ox/largest.rs" -D warnings --extern oxbreathe="$to/liboxbreathe.rlib"
+    crate largest 2024 "$host/ox/largest.rs" --extern oxbreathe="$to/liboxbreathe.rlib"
     # shellcheck disable=SC2086
     "$host/ox/test.sh" "$to" $run
 }
