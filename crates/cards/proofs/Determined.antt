@@ -31,14 +31,14 @@ counted-fit cs es n rows m u b c e =
     (λ t. leb-true (length (newIn cs es n rows)) m t)
     (λ t. let f : Full ≡ Counted u b c = rw t at e in absurd (let z : _≡_ {A = ℕ} 0 1 = cc in omega arith))
 
-module _ (κs : Lfts 6) (a : Dens κs confirm-kinds.ps) (x y : resT confirm-kinds.r κs .Denot) (d e : AtExit (endedOf 6 confirm-kinds.ps confirm-kinds.r) κs) (z : confirm.Pre κs a) (p : confirm.Post κs a x d) (q : confirm.Post κs a y e) where
+module _ (κs : Lfts 5) (a : Dens κs confirm-kinds.ps) (x y : resT confirm-kinds.r κs .Denot) (d e : AtExit (endedOf 5 confirm-kinds.ps confirm-kinds.r) κs) (z : confirm.Pre κs a) (p : confirm.Post κs a x d) (q : confirm.Post κs a y e) where
   confirm-once : x ≡ y
   confirm-once = p .0 (z .entries) (z .said) (z .answered) ∙ sym (q .0 (z .entries) (z .said) (z .answered))
 
-  confirm-once-cards : (u b c : ℕ) → x ≡ Counted u b c → now (d .1 .1 .1 .1 .1 .1 .1 .0) ≡ now (e .1 .1 .1 .1 .1 .1 .1 .0)
+  confirm-once-cards : (u b c : ℕ) → x ≡ Counted u b c → now (d .1 .1 .1 .1 .1 .0) ≡ now (e .1 .1 .1 .1 .1 .0)
   confirm-once-cards u b c h =
       let f = counted-fit _ (z .entries) _ _ _ u b c (sym (p .0 (z .entries) (z .said) (z .answered)) ∙ h) in
       p .1 .0 (z .entries) (z .said) (z .answered) f ∙ sym (q .1 .0 (z .entries) (z .said) (z .answered) f)
 
-  confirm-once-rows : (j : ℕ) → keptOf (getD (now (d .1 .1 .1 .1 .1 .0)) j []) ≡ keptOf (getD (now (e .1 .1 .1 .1 .1 .0)) j [])
+  confirm-once-rows : (j : ℕ) → keptOf (getD (now (d .1 .1 .1 .0)) j []) ≡ keptOf (getD (now (e .1 .1 .1 .0)) j [])
   confirm-once-rows j = p .1 .1 .0 .kept j ∙ sym (q .1 .1 .0 .kept j)

@@ -13,9 +13,6 @@ use Rattle.text.proofs.BoolLaws.{cases}
 use Rattle.chain.specs.Chain.{col}
 use Rattle.contacts.specs.Contacts.{Contact}
 use Rattle.contacts.specs.Lists.{contactsOf}
-use Rattle.index.specs.Rows as index
-use Rattle.search.specs.Search.{Indexed}
-use Rattle.search.proofs.ReadyLaws.{Ready, ready}
 use Rattle.plan.specs.Entry.{Entry, noEntry}
 use Rattle.plan.specs.Fates.{fatesIn}
 use Rattle.plan.specs.Confirmed.{newTo, alreadyTo, unmatchedTo}
@@ -48,7 +45,7 @@ pub record Counting (text table list : List ℕ) (n k : ℕ) (was rows : List Ro
   pub wide : length cards ≡ length blank
   pub done : (es : List Entry) → Said text n es was → Answered text table n es was → Done (contactsOf list) es n k was rows blank cards t
 
-module _ (text table list : List ℕ) (contacts : ℕ) (rows : List index.Row) (n : ℕ) (was : List Row) (Z : Settled text table list contacts rows n was) where
+module _ (text table list : List ℕ) (n : ℕ) (was : List Row) (Z : Settled text table list n was) where
   pub counting-none : (blank : List (List ℕ)) (t : Tally) → t .used ≡ 0 → t .already ≡ 0 → t .unmatched ≡ 0 → Counting text table list n 0 was was blank blank t
   counting-none blank t u a m =
       record {
@@ -81,7 +78,7 @@ module _ (text table list : List ℕ) (contacts : ℕ) (rows : List index.Row) (
     marked-now : Marked text n k now
     marked-now = record { room = room; inside = h; links = G .chained .links; coded = now-coded }
 
-    pub ready-at : ReadyAt text table rows n k now t
+    pub ready-at : ReadyAt text table list n k now t
     unfolding Answered
     ready-at =
         let K : keptOf (getD now k []) ≡ keptOf (getD was k []) = G .chained .kept .kept k in
@@ -90,13 +87,13 @@ module _ (text table list : List ℕ) (contacts : ℕ) (rows : List index.Row) (
           few = Z .few;
           marked = marked-now;
           inside = omega (arith, Z .answered k h .inside, ap (λ (r : Row). getD r 20 0) K, ap (λ (r : Row). getD r 21 0) K);
-          hit = omega (arith, Z .hits k h, ready list contacts rows (Z .indexed) .room, ap (λ (r : Row). getD r 22 0) K);
+          place = omega (arith, Z .within k h, ap (λ (r : Row). getD r 24 0) K);
           used = G .used;
           already = G .already;
           unmatched = G .unmatched;
         }
 
-    module _ (t' : Tally) (cards' : List (List ℕ)) (now' : List Row) (et : t' ≡ pick (confirms (col now k 0)) (tallyAt text table rows now k t) t) (ec : cards' ≡ pick (confirms (col now k 0)) (cardsAt text table rows now k t cards) cards) (er : now' ≡ pick (confirms (col now k 0)) (rowsAt now n k (servicesIn t')) now) where
+    module _ (t' : Tally) (cards' : List (List ℕ)) (now' : List Row) (et : t' ≡ pick (confirms (col now k 0)) (tallyAt text table list now k t) t) (ec : cards' ≡ pick (confirms (col now k 0)) (cardsAt text table list now k t cards) cards) (er : now' ≡ pick (confirms (col now k 0)) (rowsAt now n k (servicesIn t')) now) where
       pub done-on : (es : List Entry) → Said text n es was → Answered text table n es was → Done (contactsOf list) es n (k + 1) was now' blank cards' t'
       done-on es S A =
           let f : col now k 0 ≡ getD (fatesIn was n) k 0 = now-fate text table (contactsOf list) es n was now S A (G .chained .kept .kept) k h in
@@ -104,12 +101,12 @@ module _ (text table list : List ℕ) (contacts : ℕ) (rows : List index.Row) (
           cases (confirms (getD (fatesIn was n) k 0))
           (λ u. let v : confirms (col now k 0) ≡ true = ap confirms f ∙ u in
           on-as t' cards' now' (picked _ _ _ _ et v) (picked _ _ _ _ ec v) (picked _ _ _ _ er v ∙ ap (λ (x : Tally). rowsAt now n k (servicesIn x)) (picked _ _ _ _ et v))
-          (done-confirmed text table list contacts rows n k was now blank cards t es (Z .indexed) (Z .hits k h) S A (G .chained) h room D u))
+          (done-confirmed text table list n k was now blank cards t es (Z .hits k h) (Z .places k h) S A (G .chained) h room D u))
           (λ u. let v : confirms (col now k 0) ≡ false = ap confirms f ∙ u in
-          off-as t' cards' now' (dropped _ _ _ _ et v) (dropped _ _ _ _ ec v) (dropped _ _ _ _ er v) (done-passed text table list contacts rows n k was now blank cards t es (Z .indexed) (Z .hits k h) S A (G .chained) h room D u))
+          off-as t' cards' now' (dropped _ _ _ _ et v) (dropped _ _ _ _ ec v) (dropped _ _ _ _ er v) (done-passed text table list n k was now blank cards t es (Z .hits k h) (Z .places k h) S A (G .chained) h room D u))
         where
-          on-as : (a : Tally) (b : List (List ℕ)) (c : List Row) → a ≡ tallyAt text table rows now k t → b ≡ cardsAt text table rows now k t cards → c ≡ rowsAt now n k (servicesIn (tallyAt text table rows now k t))
-              → Done (contactsOf list) es n (suc k) was (rowsAt now n k (servicesIn (tallyAt text table rows now k t))) blank (cardsAt text table rows now k t cards) (tallyAt text table rows now k t)
+          on-as : (a : Tally) (b : List (List ℕ)) (c : List Row) → a ≡ tallyAt text table list now k t → b ≡ cardsAt text table list now k t cards → c ≡ rowsAt now n k (servicesIn (tallyAt text table list now k t))
+              → Done (contactsOf list) es n (suc k) was (rowsAt now n k (servicesIn (tallyAt text table list now k t))) blank (cardsAt text table list now k t cards) (tallyAt text table list now k t)
               → Done (contactsOf list) es n (k + 1) was c blank b a
           on-as a b c p q r d = let z : k + 1 ≡ suc k = omega arith in rw (p, q, r, z) d
 

@@ -14,12 +14,10 @@ use Rattle.tables.specs.Place.{bytes}
 use Rattle.chain.specs.Chain.{over, any, col}
 use Rattle.chain.proofs.Chains.{over-same}
 use Rattle.contacts.specs.Contacts.{Contact, idOf, servicesOf}
-use Rattle.contacts.specs.Lists.{contactAt, contactsFrom, contactsOf, countOf, idAt, servicesAt}
-use Rattle.index.specs.Rows as index
-use Rattle.index.specs.Rows.{low, high, rowOf, rowBy, rowAt}
-use Rattle.index.specs.Index.{freeOf}
-use Rattle.search.specs.Search.{Indexed}
-use Rattle.search.proofs.ReadyLaws.{placeFrom, contact-there, Ready, ready}
+use Rattle.contacts.specs.Lists.{contactAt, contactsFrom, contactsOf, countOf}
+use Rattle.index.specs.Rows.{low, high}
+use Rattle.search.specs.Search.{placeFrom, placeOf}
+use Rattle.search.proofs.ReadyLaws.{contact-there}
 use Rattle.dedupe.specs.Keys.{unmatched}
 use Rattle.dedupe.specs.Views.{keysUnmatched}
 use Rattle.plan.specs.Entry.{Entry, noEntry}
@@ -149,34 +147,27 @@ module _ (text table : List ℕ) (cs : List Contact) (es : List Entry) (n : ℕ)
         given-same (unseen text rows k) (counts cs es Hits Fates k) (answersIn text table (getD rows k [])) (answers-served text table (getD rows k [])) unseen-counts
         ∙ ap (given (counts cs es Hits Fates k)) (now-answers k h)
 
+  pub now-place : (k : ℕ) → col rows k 27 ≡ col was k 27
+  now-place k = ap (λ (r : Row). getD r 24 0) (K k)
+
 -- ---- what a record confirms
-target-there : (list : List ℕ) (contacts : ℕ) (rows : List index.Row) → Indexed list contacts rows → (i : ℕ) → suc i ≤ contacts
-    → targetIn (getD rows i []) ≡ target true (servicesOf (getD (contactsOf list) i noContact)) (low (idOf (getD (contactsOf list) i noContact))) (high (idOf (getD (contactsOf list) i noContact)))
-unfolding targetIn contactsOf contactAt rowAt rowBy rowOf
-target-there list contacts rows I i l =
-    let R = ready list contacts rows I in
-    let p = placeFrom list i 5 in
-    let e = R .free i l in
-    let g : i < countOf list = omega (arith, R .count) in
-    let c : getD (contactsFrom list (countOf list) 5) i noContact ≡ contactAt list p = contact-there list (countOf list) 5 i noContact g in
-    let a : getD (getD rows i []) 5 0 ≡ servicesAt list p = ap (λ (r : index.Row). getD r 3 0) e in
-    let b : getD (getD rows i []) 3 0 ≡ low (idAt list p) = ap (λ (r : index.Row). getD r 1 0) e in
-    let d : getD (getD rows i []) 4 0 ≡ high (idAt list p) = ap (λ (r : index.Row). getD r 2 0) e in
-    rw (c, a, b, d) refl
+target-there : (list : List ℕ) (i : ℕ) → suc i ≤ countOf list
+    → targetIn list (placeFrom list i 5) ≡ target true (servicesOf (getD (contactsOf list) i noContact)) (low (idOf (getD (contactsOf list) i noContact))) (high (idOf (getD (contactsOf list) i noContact)))
+unfolding targetIn contactsOf contactAt
+target-there list i l =
+    let c : getD (contactsFrom list (countOf list) 5) i noContact ≡ contactAt list (placeFrom list i 5) = contact-there list (countOf list) 5 i noContact l in
+    rw c refl
 
-module _ (list : List ℕ) (contacts : ℕ) (rows : List index.Row) (I : Indexed list contacts rows) where
-  target-numbered : (h : ℕ) → h ≤ contacts → targetOf rows 5 h ≡ target true (servicesOf (contactNumbered (contactsOf list) h)) (low (idOf (contactNumbered (contactsOf list) h))) (high (idOf (contactNumbered (contactsOf list) h)))
-  unfolding targetOf low high
-  target-numbered zero l = refl
-  target-numbered (suc i) l =
-      let z : suc i - 1 ≡ i = omega arith in
-      ap (λ (b : Bool). pick b (target true 0 0 0) (targetIn (getD rows (suc i - 1) []))) (ne-eqb (suc i) 0 (λ y. omega arith))
-      ∙ ap (λ (x : ℕ). targetIn (getD rows x [])) z
-      ∙ target-there list contacts rows I i l
+target-numbered : (list : List ℕ) (h : ℕ) → h ≤ countOf list → targetOf list 5 h (placeOf list h) ≡ target true (servicesOf (contactNumbered (contactsOf list) h)) (low (idOf (contactNumbered (contactsOf list) h))) (high (idOf (contactNumbered (contactsOf list) h)))
+unfolding targetOf placeOf low high
+target-numbered list zero l = refl
+target-numbered list (suc i) l =
+    ap (λ (b : Bool). pick b (target true 0 0 0) (targetIn list (placeFrom list i 5))) (ne-eqb (suc i) 0 (λ y. omega arith)) ∙ target-there list i l
 
-  pub target-five : (f h : ℕ) → f ≡ 5 → h ≤ contacts → targetOf rows f h ≡ target true (servicesOf (contactNumbered (contactsOf list) h)) (low (idOf (contactNumbered (contactsOf list) h))) (high (idOf (contactNumbered (contactsOf list) h)))
-  target-five f h e l = ap (λ (x : ℕ). targetOf rows x h) e ∙ target-numbered h l
+pub target-five : (list : List ℕ) (f h p : ℕ) → f ≡ 5 → p ≡ placeOf list h → h ≤ countOf list
+    → targetOf list f h p ≡ target true (servicesOf (contactNumbered (contactsOf list) h)) (low (idOf (contactNumbered (contactsOf list) h))) (high (idOf (contactNumbered (contactsOf list) h)))
+target-five list f h p e ep l = rw (e, ep) (target-numbered list h l)
 
-  pub target-six : (f h : ℕ) → f ≡ 6 → targetOf rows f h ≡ target false 0 0 0
-  unfolding targetOf
-  target-six f h e = rw e refl
+pub target-six : (list : List ℕ) (f h p : ℕ) → f ≡ 6 → targetOf list f h p ≡ target false 0 0 0
+unfolding targetOf
+target-six list f h p e = rw e refl

@@ -9,7 +9,6 @@ use lib.ListN.{length, getD, set}
 use borrow.Author.Tests.{eq-eqb, ne-eqb}
 use Rattle.text.specs.Pick.{pick, both, either}
 use Rattle.chain.specs.Chain.{col}
-use Rattle.index.specs.Rows as index
 use Rattle.confirmations.specs.Confirmations.{unanswered, answersOf}
 use Rattle.confirmations.specs.declared.Answer.{Answer}
 use Rattle.entries.specs.Row.{Row}
@@ -63,20 +62,20 @@ module _ (to : Target) (counts : ℕ → Bool) (a b c d : Answer) (t one two thr
       → now ≡ cardsOver to counts (a ∷ b ∷ c ∷ d ∷ []) t was
   four-cards was first second third now f1 f2 f3 f = f ∙ rw (f3, e3, f2, e2, f1, e1) refl
 
-module _ (text table : List ℕ) (rows : List index.Row) (fates : List Row) (k : ℕ) (t u : Tally) (f h : ℕ) (to : Target) (given : List Answer) (ef : f ≡ col fates k 0) (eh : h ≡ col fates k 22) (et : to ≡ targetOf rows f h) (ea : given ≡ answersIn text table (getD fates k [])) (eu : u ≡ unmarked t) where
+module _ (text table list : List ℕ) (fates : List Row) (k : ℕ) (t u : Tally) (f h p : ℕ) (to : Target) (given : List Answer) (ef : f ≡ col fates k 0) (eh : h ≡ col fates k 22) (ep : p ≡ col fates k 27) (et : to ≡ targetOf list f h p) (ea : given ≡ answersIn text table (getD fates k [])) (eu : u ≡ unmarked t) where
   four-of : getD given 0 unanswered ∷ getD given 1 unanswered ∷ getD given 2 unanswered ∷ getD given 3 unanswered ∷ [] ≡ answersIn text table (getD fates k [])
   unfolding answersIn answersOf
   four-of = rw ea refl
 
-  pub at-counted : (r : Tally) → r ≡ tallyOver to (unseen text fates k) (getD given 0 unanswered ∷ getD given 1 unanswered ∷ getD given 2 unanswered ∷ getD given 3 unanswered ∷ []) u → r ≡ tallyAt text table rows fates k t
+  pub at-counted : (r : Tally) → r ≡ tallyOver to (unseen text fates k) (getD given 0 unanswered ∷ getD given 1 unanswered ∷ getD given 2 unanswered ∷ getD given 3 unanswered ∷ []) u → r ≡ tallyAt text table list fates k t
   unfolding tallyAt
   at-counted r e =
-      e ∙ ap (λ (l : List Answer). tallyOver to (unseen text fates k) l u) four-of ∙ rw (et, ef, eh, eu) refl
+      e ∙ ap (λ (l : List Answer). tallyOver to (unseen text fates k) l u) four-of ∙ rw (et, ef, eh, ep, eu) refl
 
-  pub at-cards : (was now : List (List ℕ)) → now ≡ cardsOver to (unseen text fates k) (getD given 0 unanswered ∷ getD given 1 unanswered ∷ getD given 2 unanswered ∷ getD given 3 unanswered ∷ []) u was → now ≡ cardsAt text table rows fates k t was
+  pub at-cards : (was now : List (List ℕ)) → now ≡ cardsOver to (unseen text fates k) (getD given 0 unanswered ∷ getD given 1 unanswered ∷ getD given 2 unanswered ∷ getD given 3 unanswered ∷ []) u was → now ≡ cardsAt text table list fates k t was
   unfolding cardsAt
   at-cards was now e =
-      e ∙ ap (λ (l : List Answer). cardsOver to (unseen text fates k) l u was) four-of ∙ rw (et, ef, eh, eu) refl
+      e ∙ ap (λ (l : List Answer). cardsOver to (unseen text fates k) l u was) four-of ∙ rw (et, ef, eh, ep, eu) refl
 
 module _ (fates : List Row) (n k : ℕ) (r : Tally) (services : ℕ) (es : services ≡ servicesIn r) where
   pub at-marked : (now : List Row) → (services ≡ 0 → ⊥) → now ≡ marked fates (codeIn (getD fates k []) % n) k services → now ≡ rowsAt fates n k (servicesIn r)
@@ -111,7 +110,7 @@ grown-from t u r e g =
       unmatched = omega (arith, g .unmatched, ap (λ (x : Tally). x .unmatched) e);
     }
 
-module _ (text table : List ℕ) (rows : List index.Row) (n k : ℕ) (fates : List Row) (t u : Tally) (R : Ready text table rows n k fates t) (e : u ≡ unmarked t) where
+module _ (text table list : List ℕ) (n k : ℕ) (fates : List Row) (t u : Tally) (R : Ready text table list n k fates t) (e : u ≡ unmarked t) where
   pub few-used : u .used ≤ 17179869184
   unfolding unmarked
   few-used = omega (arith, R .used, R .few, R .marked .inside, ap (λ (x : Tally). x .used) e)

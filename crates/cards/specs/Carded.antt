@@ -47,12 +47,12 @@ module _ (contacts : List Contact) (es : List Entry) (n : ℕ) (rows : List Row)
   unfoldable pub cardsAfter : List (List ℕ) → List (List ℕ)
   cardsAfter cards = sets cards 0 (map cardRow newIn)
 
--- the numbers of a row that are left alone: all but 24 to 27
+-- the numbers of a row that are left alone: all but 24 to 26
 abbrev pub keptOf : Row → List ℕ
 keptOf r =
     getD r 0 0 ∷ getD r 1 0 ∷ getD r 2 0 ∷ getD r 3 0 ∷ getD r 4 0 ∷ getD r 5 0 ∷ getD r 6 0 ∷ getD r 7 0 ∷ getD r 8 0 ∷ getD r 9 0 ∷ getD r 10 0
     ∷ getD r 11 0 ∷ getD r 12 0 ∷ getD r 13 0 ∷ getD r 14 0 ∷ getD r 15 0 ∷ getD r 16 0 ∷ getD r 17 0 ∷ getD r 18 0 ∷ getD r 19 0 ∷ getD r 20 0
-    ∷ getD r 21 0 ∷ getD r 22 0 ∷ getD r 23 0
+    ∷ getD r 21 0 ∷ getD r 22 0 ∷ getD r 23 0 ∷ getD r 27 0
     ∷ []
 
 pub record Kept (n : ℕ) (rows rows′ : List Row) : Type 0 where

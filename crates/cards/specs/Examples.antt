@@ -12,6 +12,7 @@ use Rattle.letters.specs.Same.{sameRaised}
 use Rattle.tables.specs.Place.{stands}
 use Rattle.times.specs.declared.Moment.the-variants.{Never}
 use Rattle.contacts.specs.Contacts.{Contact, contact}
+use Rattle.contacts.specs.Lists.{numberAt, idAt, servicesAt}
 use Rattle.chain.specs.Chain.{over}
 use Rattle.index.specs.Rows.{low, high}
 use Rattle.confirmations.specs.Confirmations.{unanswered}
@@ -69,12 +70,15 @@ two-bits : bitsOf true false true false ≡ 5
 unfolding bitsOf
 two-bits = refl
 
--- contact 1 of an index of one, with eqsl and id 7; of fate 6 there is none
-first-contact : targetOf ((0 ∷ 0 ∷ 99 ∷ 7 ∷ 0 ∷ 2 ∷ []) ∷ []) 5 1 ≡ target true 2 7 0
-unfolding targetOf targetIn
+-- the contact at place 5 of a list, with eqsl and an id of 2^32 and 7; of fate 6 there is none
+abbrev list : List ℕ
+list = replicate 10 0 ++ (1 ∷ 0 ∷ 0 ∷ 0 ∷ 7 ∷ 2 ∷ [])
+
+first-contact : targetOf list 5 1 5 ≡ target true 2 7 1
+unfolding targetOf targetIn idAt servicesAt numberAt low high
 first-contact = refl
 
-no-contact : targetOf ((0 ∷ 0 ∷ 99 ∷ 7 ∷ 0 ∷ 2 ∷ []) ∷ []) 6 1 ≡ target false 0 0 0
+no-contact : targetOf list 6 1 5 ≡ target false 0 0 0
 unfolding targetOf
 no-contact = refl
 

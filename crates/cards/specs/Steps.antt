@@ -8,8 +8,8 @@ use lib.ListN.{length, getD, set}
 use Rattle.text.specs.Pick.{pick, both, either}
 use Rattle.chain.specs.Chain.{col}
 use Rattle.writer.specs.Rows.{rowsFrom}
-use Rattle.index.specs.Rows as index
-use Rattle.search.specs.Search.{Indexed}
+use Rattle.contacts.specs.Lists.{countOf}
+use Rattle.search.specs.Search.{placeOf}
 use Rattle.confirmations.specs.Confirmations.{answersOf}
 use Rattle.confirmations.specs.declared.Answer.{Answer}
 use Rattle.plan.specs.Entry.{Entry}
@@ -21,11 +21,12 @@ use Rattle.tallies.specs.declared.Tally.{Tally}
 use Rattle.tallies.specs.declared.Target.{Target}
 
 -- ---- what the planner hands over: rows of n records whose fates are settled
-pub record Settled (text table list : List ℕ) (contacts : ℕ) (rows : List index.Row) (n : ℕ) (fates : List Row) : Type 0 where
+pub record Settled (text table list : List ℕ) (n : ℕ) (fates : List Row) : Type 0 where
   pub small : length text ≤ 16777216
   pub few : n < 4294967296
-  pub indexed : Indexed list contacts rows
-  pub hits : (j : ℕ) → j < n → col fates j 22 ≤ contacts
+  pub hits : (j : ℕ) → j < n → col fates j 22 ≤ countOf list
+  pub places : (j : ℕ) → j < n → col fates j 27 ≡ placeOf list (col fates j 22)
+  pub within : (j : ℕ) → j < n → col fates j 27 ≤ 16777216
   pub services : (j : ℕ) → j < n → col fates j 24 ≡ 0
   pub heads : (j : ℕ) → j < n → col fates j 25 ≡ 0
   pub entries : List Entry
@@ -58,9 +59,9 @@ confirms fate = either (eqb fate 5) (eqb fate 6)
 unfoldable pub answersIn : List ℕ → List ℕ → Row → List Answer
 answersIn text table r = answersOf text (rowsFrom table (getD r 20 0) (getD r 21 0)) (dateIn r)
 
-module _ (text table : List ℕ) (rows : List index.Row) (fates : List Row) (k : ℕ) where
+module _ (text table list : List ℕ) (fates : List Row) (k : ℕ) where
   abbrev pub targetAt : Target
-  targetAt = targetOf rows (col fates k 0) (col fates k 22)
+  targetAt = targetOf list (col fates k 0) (col fates k 22) (col fates k 27)
 
   unfoldable pub tallyAt : Tally → Tally
   tallyAt t = tallyOver targetAt (unseen text fates k) (answersIn text table (getD fates k [])) (unmarked t)
@@ -72,12 +73,12 @@ unfoldable pub rowsAt : List Row → ℕ → ℕ → ℕ → List Row
 rowsAt fates n k services = pick (eqb services 0) fates (marked fates (codeIn (getD fates k []) % n) k services)
 
 -- those before it are counted
-pub record Ready (text table : List ℕ) (rows : List index.Row) (n k : ℕ) (fates : List Row) (t : Tally) : Type 0 where
+pub record Ready (text table list : List ℕ) (n k : ℕ) (fates : List Row) (t : Tally) : Type 0 where
   pub small : length text ≤ 16777216
   pub few : n < 4294967296
   pub marked : Marked text n k fates
   pub inside : (col fates k 20 + col fates k 21) * 5 ≤ length table
-  pub hit : col fates k 22 ≤ length rows
+  pub place : col fates k 27 ≤ 16777216
   pub used : t .used ≤ k * 4
   pub already : t .already ≤ k * 4
   pub unmatched : t .unmatched ≤ k * 4

@@ -99,23 +99,24 @@ fn with_answers(
 fn confirm_at(
     text: &[u8],
     table: &[u32],
-    index: &[[u32; 14]],
+    list: &[u8],
     rows: &mut [[u32; 28]],
     n: usize,
     k: usize,
     cards: &mut [[u32; 5]],
     t: Tally,
 ) -> Tally
-    requires { ⌜ Ready (now text) (now table) (now index) n k (now rows) t ⌝ }
-    ensures { λ r. ⌜ r ≡ tallyAt (now (text .entry)) (now (table .entry)) (now (index .entry)) (now (rows .entry)) k t ⌝ }
-    ensures { λ _. ⌜ now (cards .exit) ≡ cardsAt (now (text .entry)) (now (table .entry)) (now (index .entry)) (now (rows .entry)) k t (now (cards .entry)) ⌝ }
+    requires { ⌜ Ready (now text) (now table) (now list) n k (now rows) t ⌝ }
+    ensures { λ r. ⌜ r ≡ tallyAt (now (text .entry)) (now (table .entry)) (now (list .entry)) (now (rows .entry)) k t ⌝ }
+    ensures { λ _. ⌜ now (cards .exit) ≡ cardsAt (now (text .entry)) (now (table .entry)) (now (list .entry)) (now (rows .entry)) k t (now (cards .entry)) ⌝ }
     ensures { λ r. ⌜ now (rows .exit) ≡ rowsAt (now (rows .entry)) n k (servicesIn r) ⌝ }
     ensures { λ r. ⌜ Grown 4 t r ⌝ }
 {
     let to = tallies::target_of(
-        index,
+        list,
         counted::number_in(rows[k], 0),
         counted::number_in(rows[k], 22),
+        counted::number_in(rows[k], 27),
     );
     let answers = answers_at(text, table, rows[k]);
     let r = with_answers(
@@ -141,22 +142,22 @@ fn confirm_at(
 fn confirm_one(
     text: &[u8],
     table: &[u32],
-    index: &[[u32; 14]],
+    list: &[u8],
     rows: &mut [[u32; 28]],
     n: usize,
     k: usize,
     cards: &mut [[u32; 5]],
     t: Tally,
 ) -> Tally
-    requires { ⌜ Ready (now text) (now table) (now index) n k (now rows) t ⌝ }
-    ensures { λ r. ⌜ r ≡ pick (confirms (col (now (rows .entry)) k 0)) (tallyAt (now (text .entry)) (now (table .entry)) (now (index .entry)) (now (rows .entry)) k t) t ⌝ }
-    ensures { λ _. ⌜ now (cards .exit) ≡ pick (confirms (col (now (rows .entry)) k 0)) (cardsAt (now (text .entry)) (now (table .entry)) (now (index .entry)) (now (rows .entry)) k t (now (cards .entry))) (now (cards .entry)) ⌝ }
+    requires { ⌜ Ready (now text) (now table) (now list) n k (now rows) t ⌝ }
+    ensures { λ r. ⌜ r ≡ pick (confirms (col (now (rows .entry)) k 0)) (tallyAt (now (text .entry)) (now (table .entry)) (now (list .entry)) (now (rows .entry)) k t) t ⌝ }
+    ensures { λ _. ⌜ now (cards .exit) ≡ pick (confirms (col (now (rows .entry)) k 0)) (cardsAt (now (text .entry)) (now (table .entry)) (now (list .entry)) (now (rows .entry)) k t (now (cards .entry))) (now (cards .entry)) ⌝ }
     ensures { λ r. ⌜ now (rows .exit) ≡ pick (confirms (col (now (rows .entry)) k 0)) (rowsAt (now (rows .entry)) n k (servicesIn r)) (now (rows .entry)) ⌝ }
     ensures { λ r. ⌜ Grown 4 t r ⌝ }
 {
     let fate = counted::number_in(rows[k], 0);
     if text::any(fate == CONFIRMED, fate == UNMATCHED) {
-        return confirm_at(text, table, index, rows, n, k, cards, t);
+        return confirm_at(text, table, list, rows, n, k, cards, t);
     }
     t
 }
@@ -166,14 +167,12 @@ fn confirm_one(
 pub fn confirm(
     text: &[u8],
     table: &[u32],
-    index: &[[u32; 14]],
     list: &[u8],
-    contacts: usize,
     rows: &mut [[u32; 28]],
     n: usize,
     cards: &mut [[u32; 5]],
 ) -> Carded
-    requires { ⌜ Settled (now text) (now table) (now list) contacts (now index) n (now rows) ⌝ }
+    requires { ⌜ Settled (now text) (now table) (now list) n (now rows) ⌝ }
     ensures { λ r. ⌜ ((es : List Entry) → Said (now (text .entry)) n es (now (rows .entry)) → Answered (now (text .entry)) (now (table .entry)) n es (now (rows .entry)) → r ≡ cardedAs (contactsOf (now (list .entry))) es n (now (rows .entry)) (length (now (cards .entry)))) ⌝ }
     ensures { λ _. ⌜ ((es : List Entry) → Said (now (text .entry)) n es (now (rows .entry)) → Answered (now (text .entry)) (now (table .entry)) n es (now (rows .entry)) → length (newIn (contactsOf (now (list .entry))) es n (now (rows .entry))) ≤ length (now (cards .entry)) → now (cards .exit) ≡ cardsAfter (contactsOf (now (list .entry))) es n (now (rows .entry)) (now (cards .entry))) ⌝ }
     ensures { λ _. ⌜ Kept n (now (rows .entry)) (now (rows .exit)) ⌝ }
@@ -190,7 +189,7 @@ pub fn confirm(
     };
     let mut k = 0;
     while k < n {
-        t = confirm_one(text, table, index, rows, n, k, cards, t);
+        t = confirm_one(text, table, list, rows, n, k, cards, t);
         if cards.len() < t.used {
             return Carded::Full;
         }

@@ -3,8 +3,8 @@
 -- this one in its own; both by number and one, 0 for none), 4 the code of its call, mode and band, all trimmed, 5 to 7 the place of its
 -- call, 8 to 10 of its mode, 11 to 13 of its band, 14 to 16 of its date, 17 whether it has a moment, 18 and 19 the seconds of that, 20 its
 -- first row in the table of rows, 21 how many it has there, 22 the contact that it found, by number and one, 23 whether it bears a
--- confirmation, 24 the services that count at it, as bits, 25 and 26 the chains of records at which a service counts; 27 is free.
--- A number of 64 bits has its low half first.
+-- confirmation, 24 the services that count at it, as bits, 25 and 26 the chains of records at which a service counts, 27 the place of the
+-- found contact's entry in the list. A number of 64 bits has its low half first.
 use Prim.Native.Nat.{ℕ}
 use mathlib.Core.Bool.{Bool, true, false}
 use mathlib.Core.List.{List, [], _∷_}

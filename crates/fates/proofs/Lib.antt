@@ -1,4 +1,3 @@
-pub mod FoundLaws
 pub mod StepLaws
 pub mod SettleLaws
 pub mod Determined

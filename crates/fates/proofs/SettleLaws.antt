@@ -19,33 +19,22 @@ use Rattle.tables.specs.Place.{bytes}
 use Rattle.times.specs.Window.{isWithin, limitOf}
 use Rattle.dedupe.specs.Keys.{inFile}
 use Rattle.dedupe.specs.Views.{keysInFile}
-use Rattle.contacts.specs.Contacts.{Contact}
-use Rattle.contacts.specs.Lists.{contactsOf}
 use Rattle.chain.specs.Chain.{any, col}
 use Rattle.chain.proofs.Chains.{over-same}
-use Rattle.search.specs.Search.{near, firstMatch}
+use Rattle.search.specs.Search.{near}
 use Rattle.search.proofs.FindLaws.{near-within}
 use Rattle.plan.specs.Entry.{Entry, noEntry}
-use Rattle.plan.specs.Fates.{found, fateOf, bearsAny, repeats, repeated, fateAt, fatesTo}
-use Rattle.plan.specs.Plan.{hitsOf, fatesOf}
+use Rattle.plan.specs.Fates.{fateOf, bearsAny, repeats, repeated, fateAt, fatesTo}
 use Rattle.entries.specs.Row.{Row, callIn, modeIn, bandIn, momentIn, oneIf}
 use Rattle.entries.specs.Filled.{Says, Said, Bare}
 use Rattle.infile.specs.Infile.{alike, repeatedIn, codeIn, Chained}
 use Rattle.infile.proofs.LinkLaws.{chained-none}
-use Rattle.fates.specs.Fated.{Fated, keptOf, Kept}
-use Rattle.fates.specs.Steps.{hitIn, fateIn, Step}
-use Rattle.fates.proofs.FoundLaws.{found-is, hit-at}
+use Rattle.fates.specs.Fated.{Found, Fated, keptOf, Kept}
+use Rattle.fates.specs.Steps.{fateIn, Step}
 
 -- ---- what reads only numbers that are left alone
 abbrev wide : List ℕ → Row
 wide xs = 0 ∷ getD xs 0 0 ∷ 0 ∷ 0 ∷ drop 1 xs
-
-hit-wide : (text list : List ℕ) (limit : ℕ) (r : Row) → hitIn text list limit r ≡ hitIn text list limit (wide (keptOf r))
-unfolding hitIn
-hit-wide text list limit r = refl
-
-hit-kept : (text list : List ℕ) (limit : ℕ) (r s : Row) → keptOf r ≡ keptOf s → hitIn text list limit r ≡ hitIn text list limit s
-hit-kept text list limit r s e = hit-wide text list limit r ∙ ap (λ (x : List ℕ). hitIn text list limit (wide x)) e ∙ sym (hit-wide text list limit s)
 
 alike-wide : (text : List ℕ) (limit : ℕ) (r s : Row) → alike text limit r s ≡ alike text limit (wide (keptOf r)) (wide (keptOf s))
 unfolding alike
@@ -69,14 +58,6 @@ module _ (text : List ℕ) (n : ℕ) (es : List Entry) (rows : List Row) (S : Sa
   said-code j h = let s = S .says j h in s .code ∙ rw (← s .call, ← s .mode, ← s .band) refl
 
   module _ (w : ℤ) (limit : ℕ) (el : limit ≡ limitOf w) where
-    said-hit : (list : List ℕ) (j : ℕ) → j < n → hitIn text list limit (getD rows j []) ≡ getD (hitsOf w (contactsOf list) es) j 0
-    unfolding hitIn
-    said-hit list j h =
-        let s = S .says j h in
-        let l : j < length es = omega (arith, S .counted) in
-        rw (s .call, s .mode, s .band, s .moment, el) (found-is w (getD es j noEntry) (contactsOf list))
-        ∙ sym (hit-at (found w (contactsOf list)) es j l)
-
     said-alike : (download : Bool) (hits : List ℕ) (j k : ℕ) → j < n → k < n → alike text limit (getD rows j []) (getD rows k []) ≡ repeats w download es hits j k
     unfolding alike keysInFile repeats
     said-alike download hits j k hj hk =
@@ -101,30 +82,25 @@ module _ (w : ℤ) (download : Bool) (es : List Entry) (hits : List ℕ) where
   fates-new k = rw add-one (getD-at (fatesTo w download es hits k) _ [] 0 k (fates-length k))
 
 -- ---- after k records
-pub record Done (text list : List ℕ) (limit : ℕ) (download : Bool) (n k : ℕ) (rows₀ rows : List Row) : Type 0 where
-  pub fates : (w : ℤ) (es : List Entry) → limit ≡ limitOf w → Said text n es rows₀ → (j : ℕ) → j < k → col rows j 0 ≡ getD (fatesTo w download es (hitsOf w (contactsOf list) es) k) j 0
-  pub hits : (j : ℕ) → j < k → col rows j 22 ≡ hitIn text list limit (getD rows₀ j [])
+pub record Done (text : List ℕ) (limit : ℕ) (download : Bool) (n k : ℕ) (rows₀ rows : List Row) : Type 0 where
+  pub fates : (w : ℤ) (es : List Entry) (hits : List ℕ) → limit ≡ limitOf w → Said text n es rows₀ → Found n hits rows₀ → (j : ℕ) → j < k → col rows j 0 ≡ getD (fatesTo w download es hits k) j 0
   pub kept : (j : ℕ) → keptOf (getD rows j []) ≡ keptOf (getD rows₀ j [])
   pub lengths : length rows ≡ length rows₀
   pub behind : drop n rows ≡ drop n rows₀
   pub chained : Chained text n k rows
 
-pub done-none : (text list : List ℕ) (limit : ℕ) (download : Bool) (n : ℕ) (rows : List Row) → Bare n rows → (es : List Entry) → Said text n es rows → Done text list limit download n 0 rows rows
-done-none text list limit download n rows B es S =
+pub done-none : (text : List ℕ) (limit : ℕ) (download : Bool) (n : ℕ) (rows : List Row) → Bare n rows → (es : List Entry) → Said text n es rows → Done text limit download n 0 rows rows
+done-none text limit download n rows B es S =
     record {
-      fates = λ w es el s j h. absurd (omega arith);
-      hits = λ j h. absurd (omega arith);
+      fates = λ w es hits el s f j h. absurd (omega arith);
       kept = λ j. refl;
       lengths = refl;
       behind = refl;
       chained = chained-none text n rows (S .room) (said-code text n es rows S) (B .heads);
     }
 
-module _ (text list : List ℕ) (limit : ℕ) (download : Bool) (n k : ℕ) (rows₀ rows : List Row) (D : Done text list limit download n k rows₀ rows) where
-  module _ (h : k < n) (w : ℤ) (es : List Entry) (el : limit ≡ limitOf w) (S : Said text n es rows₀) where
-    abbrev hits : List ℕ
-    hits = hitsOf w (contactsOf list) es
-
+module _ (text : List ℕ) (limit : ℕ) (download : Bool) (n k : ℕ) (rows₀ rows : List Row) (D : Done text limit download n k rows₀ rows) where
+  module _ (h : k < n) (w : ℤ) (es : List Entry) (hits : List ℕ) (el : limit ≡ limitOf w) (S : Said text n es rows₀) (F : Found n hits rows₀) where
     abbrev known : ℕ → ℕ
     known j = getD (fatesTo w download es hits k) j 0
 
@@ -132,41 +108,36 @@ module _ (text list : List ℕ) (limit : ℕ) (download : Bool) (n k : ℕ) (row
     unfolding repeatedIn
     again =
         over-same _ _ (λ j a. true) false k
-        (λ j l. rw (D .fates w es el S j l, alike-kept text limit (getD rows j []) (getD rows k []) (getD rows₀ j []) (getD rows₀ k []) (D .kept j) (D .kept k), said-alike text n es rows₀ S w limit el download hits j k (omega arith) h) refl)
+        (λ j l. rw (D .fates w es hits el S F j l, alike-kept text limit (getD rows j []) (getD rows k []) (getD rows₀ j []) (getD rows₀ k []) (D .kept j) (D .kept k), said-alike text n es rows₀ S w limit el download hits j k (omega arith) h) refl)
 
-    fate-said : fateIn text list limit download rows k ≡ fateAt w download es hits known k
-    unfolding fateIn fateAt
+    fate-said : fateIn text limit download rows k ≡ fateAt w download es hits known k
+    unfolding fateIn fateAt Found
     fate-said =
         let s = S .says k h in
         let reason : col rows k 1 ≡ getD es k noEntry .reason = ap (λ (x : List ℕ). getD x 0 0) (D .kept k) ∙ s .reason in
-        let bears : ltb 0 (col rows k 23) ≡ bearsAny (getD es k noEntry .answers) = ap (λ (x : List ℕ). ltb 0 (getD x 19 0)) (D .kept k) ∙ rw (s .bears) (one-if (bearsAny (getD es k noEntry .answers))) in
-        let hit : hitIn text list limit (getD rows k []) ≡ getD hits k 0 = hit-kept text list limit (getD rows k []) (getD rows₀ k []) (D .kept k) ∙ said-hit text n es rows₀ S w limit el list k h in
-        rw (reason, bears, hit, again) refl
+        let bears : ltb 0 (col rows k 23) ≡ bearsAny (getD es k noEntry .answers) = ap (λ (x : List ℕ). ltb 0 (getD x 20 0)) (D .kept k) ∙ rw (s .bears) (one-if (bearsAny (getD es k noEntry .answers))) in
+        let found : col rows k 22 ≡ getD hits k 0 = ap (λ (x : List ℕ). getD x 19 0) (D .kept k) ∙ F k h in
+        rw (reason, bears, found, again) refl
 
-  pub done-more : (rows′ : List Row) → k < n → Step text list limit download n k rows rows′ → Done text list limit download n (k + 1) rows₀ rows′
+  pub done-more : (rows′ : List Row) → k < n → Step text limit download n k rows rows′ → Done text limit download n (k + 1) rows₀ rows′
   done-more rows′ h T =
       record {
-        fates = λ w es el S j l. cases (eqb j k)
-            (λ t. let z : j ≡ k = eqb-true j k t in rw z (T .fate ∙ fate-said h w es el S ∙ sym (fates-new w download es (hitsOf w (contactsOf list) es) k)))
+        fates = λ w es hits el S F j l. cases (eqb j k)
+            (λ t. let z : j ≡ k = eqb-true j k t in rw z (T .fate ∙ fate-said h w es hits el S F ∙ sym (fates-new w download es hits k)))
             (λ t. let d = eqb-false j k t in
-            T .fates j d ∙ D .fates w es el S j (omega arith) ∙ sym (fates-old w download es (hitsOf w (contactsOf list) es) k j (omega arith)));
-        hits = λ j l. cases (eqb j k)
-            (λ t. let z : j ≡ k = eqb-true j k t in rw z (T .hit ∙ hit-kept text list limit (getD rows k []) (getD rows₀ k []) (D .kept k)))
-            (λ t. let d = eqb-false j k t in T .hits j d ∙ D .hits j (omega arith));
+            T .fates j d ∙ D .fates w es hits el S F j (omega arith) ∙ sym (fates-old w download es hits k j (omega arith)));
         kept = λ j. T .kept j ∙ D .kept j;
         lengths = T .lengths ∙ D .lengths;
         behind = T .behind ∙ D .behind;
         chained = T .chained;
       }
 
-  pub done-all : (window : ℤ) → SFits w64 window → limit ≡ limitOf (toZ w64 (ofZ w64 window)) → k ≤ n → n ≤ k → (es : List Entry) → Said text n es rows₀ → Fated window download (contactsOf list) es n rows
-  done-all window f e a b es S =
+  pub done-all : (window : ℤ) → SFits w64 window → limit ≡ limitOf (toZ w64 (ofZ w64 window)) → k ≤ n → n ≤ k → (es : List Entry) (hits : List ℕ) → Said text n es rows₀ → Found n hits rows₀ → Fated window download es hits n rows
+  unfolding Fated
+  done-all window f e a b es hits S F =
       let el : limit ≡ limitOf window = rw (toZ-ofZ w64 window f) at e in
       let z : k ≡ length es = omega (arith, S .counted) in
-      record {
-        fates = λ j h. rw z at (D .fates window es el S j (omega arith));
-        hits = λ j h. D .hits j (omega arith) ∙ said-hit text n es rows₀ S window limit el list j h;
-      }
+      λ j h. rw z at (D .fates window es hits el S F j (omega arith))
 
   pub done-kept : Kept n rows₀ rows
   done-kept = record { lengths = D .lengths; kept = D .kept; behind = D .behind }

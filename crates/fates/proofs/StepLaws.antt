@@ -10,20 +10,14 @@ use lib.Seq.{drop-set-lt}
 use lib.Dec.{eqb, ltb}
 use borrow.Author.Tests.{lt-ltb, le-ltb}
 use Rattle.text.specs.Pick.{pick}
-use Rattle.tables.specs.Place.{bytes}
-use Rattle.times.specs.declared.Moment.{Moment}
-use Rattle.dedupe.specs.declared.Key.{Key}
-use Rattle.contacts.specs.Lists.{contactsOf}
 use Rattle.chain.specs.Chain.{col}
 use Rattle.chain.proofs.Chains.{kept, kept-of, stored, other}
-use Rattle.search.specs.Search.{firstMatch, Indexed}
 use Rattle.plan.specs.Fates.{fateOf}
-use Rattle.entries.specs.Row.{Row, keyIn, momentIn}
+use Rattle.entries.specs.Row.{Row}
 use Rattle.infile.specs.Infile.{repeatedIn, Chained, withHead, withNext, nexted, pushed}
 use Rattle.infile.proofs.LinkLaws.{codedOf, chained-by, linked-one, passed-one, pushed-length, pushed-kept}
 use Rattle.fates.specs.Fated.{keptOf}
-use Rattle.fates.specs.Steps.{hitIn, fateIn, withFate, fated, Step}
-use Rattle.fates.proofs.FoundLaws.{match-few}
+use Rattle.fates.specs.Steps.{fateIn, withFate, fated, Step}
 
 -- ---- the fates, one test after the other
 module _ (reason : ℕ) (bears matched download repeated : Bool) where
@@ -81,112 +75,104 @@ one-only false false true false r e = absurd (omega arith)
 one-only false false false false r e = refl
 
 module _ (reason : ℕ) (bears matched download : Bool) (r : Bool) (fate : ℕ) (e : fate ≡ fateOf reason bears matched download false) where
-  pub settled-already : (fate ≡ 1 → ⊥) → fate ≡ fateOf reason bears matched download r
+  settled-already : (fate ≡ 1 → ⊥) → fate ≡ fateOf reason bears matched download r
   unfolding fateOf
   settled-already n = e ∙ none-else (ltb 0 reason) bears matched download r (λ z. n (e ∙ z))
 
   module _ (f : fate ≡ 1) (t : Bool) (et : t ≡ r) where
-    pub repeats-another : t ≡ true → 3 ≡ fateOf reason bears matched download r
+    repeats-another : t ≡ true → 3 ≡ fateOf reason bears matched download r
     unfolding fateOf
     repeats-another h = let z : r ≡ true = sym et ∙ h in (rw z refl) ∙ one-only (ltb 0 reason) bears matched download r (sym e ∙ f)
 
-    pub repeats-none : t ≡ false → 1 ≡ fateOf reason bears matched download r
+    repeats-none : t ≡ false → 1 ≡ fateOf reason bears matched download r
     unfolding fateOf
     repeats-none h = let z : r ≡ false = sym et ∙ h in (rw z refl) ∙ one-only (ltb 0 reason) bears matched download r (sym e ∙ f)
 
-pub first-is : (row : Row) (hit : ℕ) (download : Bool) (a b r : ℕ) → a ≡ getD row 1 0 → b ≡ getD row 23 0 → r ≡ fateOf a (ltb 0 b) (ltb 0 hit) download false
-    → r ≡ fateOf (getD row 1 0) (ltb 0 (getD row 23 0)) (ltb 0 hit) download false
-first-is row hit download a b r ea eb e = e ∙ rw (ea, eb) refl
+pub first-is : (row : Row) (download : Bool) (a b d r : ℕ) → a ≡ getD row 1 0 → b ≡ getD row 23 0 → d ≡ getD row 22 0 → r ≡ fateOf a (ltb 0 b) (ltb 0 d) download false
+    → r ≡ fateOf (getD row 1 0) (ltb 0 (getD row 23 0)) (ltb 0 (getD row 22 0)) download false
+first-is row download a b d r ea eb ed e = e ∙ rw (ea, eb, ed) refl
 
--- ---- the contact of a row
-pub hit-is : (text list : List ℕ) (limit : ℕ) (row : Row) (key : Key) (moment : Moment) (r : ℕ) → key ≡ keyIn row → moment ≡ momentIn row
-    → r ≡ firstMatch (bytes text (key .call)) (bytes text (key .mode)) (bytes text (key .band)) moment limit (contactsOf list) → r ≡ hitIn text list limit row
-unfolding hitIn
-hit-is text list limit row key moment r ek em e = e ∙ rw (ek, em) refl
+-- ---- the fate of a row
+module _ (text : List ℕ) (limit : ℕ) (download : Bool) (rows : List Row) (k fate : ℕ) (e : fate ≡ fateOf (col rows k 1) (ltb 0 (col rows k 23)) (ltb 0 (col rows k 22)) download false) where
+  pub fate-already : (fate ≡ 1 → ⊥) → fate ≡ fateIn text limit download rows k
+  unfolding fateIn
+  fate-already n = settled-already (col rows k 1) (ltb 0 (col rows k 23)) (ltb 0 (col rows k 22)) download (repeatedIn text limit rows k) fate e n
 
-pub hit-few : (text list : List ℕ) (n : ℕ) (index : List Row) (limit : ℕ) (row : Row) (r : ℕ) → Indexed list n index → r ≡ hitIn text list limit row → r < 4294967296
-unfolding hitIn
-hit-few text list n index limit row r I e = rw e (match-few list n index _ _ _ _ limit I)
+  module _ (f : fate ≡ 1) (t : Bool) (et : t ≡ repeatedIn text limit rows k) where
+    pub fate-repeated : t ≡ true → 3 ≡ fateIn text limit download rows k
+    unfolding fateIn
+    fate-repeated h = repeats-another (col rows k 1) (ltb 0 (col rows k 23)) (ltb 0 (col rows k 22)) download (repeatedIn text limit rows k) fate e f t et h
 
--- ---- a fate and a contact are stored
-pub fate-is : (rows : List Row) (k fate hit : ℕ) (x : Row) → x ≡ withFate (getD rows k []) fate hit → set rows k x ≡ fated rows k fate hit
+    pub fate-new : t ≡ false → 1 ≡ fateIn text limit download rows k
+    unfolding fateIn
+    fate-new h = repeats-none (col rows k 1) (ltb 0 (col rows k 23)) (ltb 0 (col rows k 22)) download (repeatedIn text limit rows k) fate e f t et h
+
+-- ---- a fate is stored
+pub fate-is : (rows : List Row) (k fate : ℕ) (x : Row) → x ≡ withFate (getD rows k []) fate → set rows k x ≡ fated rows k fate
 unfolding fated
-fate-is rows k fate hit x e = rw e refl
+fate-is rows k fate x e = rw e refl
 
-module _ (rows : List Row) (k fate hit : ℕ) where
-  fated-length : length (fated rows k fate hit) ≡ length rows
+module _ (rows : List Row) (k fate : ℕ) where
+  fated-length : length (fated rows k fate) ≡ length rows
   unfolding fated
   fated-length = length-set rows k _
 
-  fated-there : k < length rows → (col (fated rows k fate hit) k 0 ≡ fate) × (col (fated rows k fate hit) k 22 ≡ hit)
+  fated-there : k < length rows → col (fated rows k fate) k 0 ≡ fate
   unfolding fated
-  fated-there h = (stored rows k _ 0 h, stored rows k _ 22 h)
+  fated-there h = stored rows k _ 0 h
 
-  fated-else : (c j : ℕ) → (j ≡ k → ⊥) → col (fated rows k fate hit) j c ≡ col rows j c
+  fated-else : (c j : ℕ) → (j ≡ k → ⊥) → col (fated rows k fate) j c ≡ col rows j c
   unfolding fated
   fated-else c j n = other rows k _ c j n
 
-  fated-kept : {A : Type 0} (f : Row → A) → ((r : Row) (x y : ℕ) → f (withFate r x y) ≡ f r) → (j : ℕ) → f (getD (fated rows k fate hit) j []) ≡ f (getD rows j [])
+  fated-kept : {A : Type 0} (f : Row → A) → ((r : Row) (x : ℕ) → f (withFate r x) ≡ f r) → (j : ℕ) → f (getD (fated rows k fate) j []) ≡ f (getD rows j [])
   unfolding fated
-  fated-kept f e j = kept-of f rows k _ j (e _ _ _)
+  fated-kept f e j = kept-of f rows k _ j (e _ _)
 
-  fated-behind : (n : ℕ) → k < n → drop n (fated rows k fate hit) ≡ drop n rows
+  fated-behind : (n : ℕ) → k < n → drop n (fated rows k fate) ≡ drop n rows
   unfolding fated
   fated-behind n h = drop-set-lt n rows k _ h
 
-  fated-chained : (text : List ℕ) (n : ℕ) → Chained text n k rows → Chained text n k (fated rows k fate hit)
+  fated-chained : (text : List ℕ) (n : ℕ) → Chained text n k rows → Chained text n k (fated rows k fate)
   fated-chained text n C =
-      chained-by text n k rows (fated rows k fate hit) fated-length (λ j l. fated-else 0 j (λ z. omega arith)) (fated-kept codedOf (λ r x y. refl)) (fated-kept (λ (r : Row). getD r 2 0) (λ r x y. refl)) (fated-kept (λ (r : Row). getD r 3 0) (λ r x y. refl)) C
+      chained-by text n k rows (fated rows k fate) fated-length (λ j l. fated-else 0 j (λ z. omega arith)) (fated-kept codedOf (λ r x. refl)) (fated-kept (λ (r : Row). getD r 2 0) (λ r x. refl)) (fated-kept (λ (r : Row). getD r 3 0) (λ r x. refl)) C
 
-module _ (text : List ℕ) (n k : ℕ) (rows r : List Row) (fate hit : ℕ) (C : Chained text n k rows) (h : k < n) (er : r ≡ fated rows k fate hit) where
-  pub row-in : k < length r
-  row-in = rw er (omega (arith, fated-length rows k fate hit, C .room))
-
-  pub bucket-in : (p : ℕ) → p % n < length r
-  bucket-in p = let m : p % n < n = mod-lt p (omega arith) in rw er (omega (arith, fated-length rows k fate hit, C .room))
+pub bucket-in : (text : List ℕ) (n k : ℕ) (rows r : List Row) (fate : ℕ) → Chained text n k rows → k < n → r ≡ fated rows k fate → (p : ℕ) → p % n < length r
+bucket-in text n k rows r fate C h er p = let m : p % n < n = mod-lt p (omega arith) in rw er (omega (arith, fated-length rows k fate, C .room))
 
 pushed-behind : (rows : List Row) (n b k : ℕ) → b < n → k < n → drop n (pushed rows b k) ≡ drop n rows
 unfolding pushed nexted
 pushed-behind rows n b k hb hk = drop-set-lt n _ b _ hb ∙ drop-set-lt n rows k _ hk
 
 -- ---- the two ways that it ends
-module _ (text list : List ℕ) (limit : ℕ) (download : Bool) (n k : ℕ) (rows : List Row) (C : Chained text n k rows) (h : k < n) (hit fate : ℕ) (eh : hit ≡ hitIn text list limit (getD rows k []))
-    (ef : fate ≡ fateOf (col rows k 1) (ltb 0 (col rows k 23)) (ltb 0 hit) download (repeatedIn text limit rows k)) where
+module _ (text : List ℕ) (limit : ℕ) (download : Bool) (n k : ℕ) (rows : List Row) (C : Chained text n k rows) (h : k < n) (fate : ℕ) (ef : fate ≡ fateIn text limit download rows k) (r : List Row) (er : r ≡ fated rows k fate) where
   inside : k < length rows
   inside = omega (arith, C .room)
 
-  fate-there : fate ≡ fateIn text list limit download rows k
-  unfolding fateIn
-  fate-there = ef ∙ ap (λ (x : ℕ). fateOf (col rows k 1) (ltb 0 (col rows k 23)) (ltb 0 x) download (repeatedIn text limit rows k)) eh
-
-  pub step-passed : (r : List Row) → r ≡ fated rows k fate hit → (fate ≡ 1 → ⊥) → Step text list limit download n k rows r
-  step-passed r er d =
-      subst (λ (x : List Row). Step text list limit download n k rows x) (sym er)
+  pub step-passed : (fate ≡ 1 → ⊥) → Step text limit download n k rows r
+  step-passed d =
+      subst (λ (x : List Row). Step text limit download n k rows x) (sym er)
       (record {
-        fate = fated-there rows k fate hit inside .0 ∙ fate-there;
-        hit = fated-there rows k fate hit inside .1 ∙ eh;
-        fates = fated-else rows k fate hit 0;
-        hits = fated-else rows k fate hit 22;
-        kept = fated-kept rows k fate hit keptOf (λ r x y. refl);
-        lengths = fated-length rows k fate hit;
-        behind = fated-behind rows k fate hit n h;
-        chained = passed-one text n k (fated rows k fate hit) (fated-chained rows k fate hit text n C) h (λ z. d (sym (fated-there rows k fate hit inside .0) ∙ z));
+        fate = fated-there rows k fate inside ∙ ef;
+        fates = fated-else rows k fate 0;
+        kept = fated-kept rows k fate keptOf (λ x y. refl);
+        lengths = fated-length rows k fate;
+        behind = fated-behind rows k fate n h;
+        chained = passed-one text n k (fated rows k fate) (fated-chained rows k fate text n C) h (λ z. d (sym (fated-there rows k fate inside) ∙ z));
       })
 
-  pub step-linked : (r s : List Row) (p : ℕ) → r ≡ fated rows k fate hit → fate ≡ 1 → p ≡ col r k 4 → s ≡ pushed r (p % n) k → Step text list limit download n k rows s
-  step-linked r s p er f ep es =
-      let q : List Row = fated rows k fate hit in
+  pub step-linked : (s : List Row) (p : ℕ) → fate ≡ 1 → p ≡ col r k 4 → s ≡ pushed r (p % n) k → Step text limit download n k rows s
+  step-linked s p f ep es =
+      let q : List Row = fated rows k fate in
       let b : ℕ = col q k 4 % n in
       let m : col q k 4 % n < n = mod-lt (col q k 4) (omega arith) in
       let z : s ≡ pushed q (col q k 4 % n) k = es ∙ rw (ep, er) refl in
-      subst (λ (x : List Row). Step text list limit download n k rows x) (sym z)
+      subst (λ (x : List Row). Step text limit download n k rows x) (sym z)
       (record {
-        fate = pushed-kept q b k (λ (x : Row). getD x 0 0) (λ x v. refl) (λ x v. refl) k ∙ fated-there rows k fate hit inside .0 ∙ fate-there;
-        hit = pushed-kept q b k (λ (x : Row). getD x 22 0) (λ x v. refl) (λ x v. refl) k ∙ fated-there rows k fate hit inside .1 ∙ eh;
-        fates = λ j d. pushed-kept q b k (λ (x : Row). getD x 0 0) (λ x v. refl) (λ x v. refl) j ∙ fated-else rows k fate hit 0 j d;
-        hits = λ j d. pushed-kept q b k (λ (x : Row). getD x 22 0) (λ x v. refl) (λ x v. refl) j ∙ fated-else rows k fate hit 22 j d;
-        kept = λ j. pushed-kept q b k keptOf (λ x v. refl) (λ x v. refl) j ∙ fated-kept rows k fate hit keptOf (λ x u v. refl) j;
-        lengths = pushed-length q b k ∙ fated-length rows k fate hit;
-        behind = pushed-behind q n b k m h ∙ fated-behind rows k fate hit n h;
-        chained = linked-one text n k q (fated-chained rows k fate hit text n C) h (fated-there rows k fate hit inside .0 ∙ f);
+        fate = pushed-kept q b k (λ (x : Row). getD x 0 0) (λ x v. refl) (λ x v. refl) k ∙ fated-there rows k fate inside ∙ ef;
+        fates = λ j d. pushed-kept q b k (λ (x : Row). getD x 0 0) (λ x v. refl) (λ x v. refl) j ∙ fated-else rows k fate 0 j d;
+        kept = λ j. pushed-kept q b k keptOf (λ x v. refl) (λ x v. refl) j ∙ fated-kept rows k fate keptOf (λ x v. refl) j;
+        lengths = pushed-length q b k ∙ fated-length rows k fate;
+        behind = pushed-behind q n b k m h ∙ fated-behind rows k fate n h;
+        chained = linked-one text n k q (fated-chained rows k fate text n C) h (fated-there rows k fate inside ∙ f);
       })

@@ -1,44 +1,35 @@
 -- What settling one record does to the rows of a plan.
-use Prim.Native.Nat.{ℕ, _+_, _<_}
+use Prim.Native.Nat.{ℕ, _+_}
 use mathlib.Core.Path.{_≡_}
 use mathlib.Core.Bool.{Bool}
 use mathlib.Core.List.{List, [], _∷_}
 use lib.ListN.{length, getD, set, drop}
 use lib.Dec.{ltb}
-use Rattle.tables.specs.Place.{bytes}
-use Rattle.contacts.specs.Lists.{contactsOf}
 use Rattle.chain.specs.Chain.{col}
-use Rattle.search.specs.Search.{firstMatch}
 use Rattle.plan.specs.Fates.{fateOf}
-use Rattle.entries.specs.Row.{Row, callIn, modeIn, bandIn, momentIn}
+use Rattle.entries.specs.Row.{Row}
 use Rattle.infile.specs.Infile.{repeatedIn, Chained}
 use Rattle.fates.specs.Fated.{keptOf}
 
--- the contact that a row finds in the list
-unfoldable pub hitIn : List ℕ → List ℕ → ℕ → Row → ℕ
-hitIn text list limit r = firstMatch (bytes text (callIn r)) (bytes text (modeIn r)) (bytes text (bandIn r)) (momentIn r) limit (contactsOf list)
+-- the fate of row k, by what it found and by the fates of the rows before it
+unfoldable pub fateIn : List ℕ → ℕ → Bool → List Row → ℕ → ℕ
+fateIn text limit download rows k =
+    fateOf (col rows k 1) (ltb 0 (col rows k 23)) (ltb 0 (col rows k 22)) download (repeatedIn text limit rows k)
 
--- the fate of row k, by what it finds and by the fates of the rows before it
-unfoldable pub fateIn : List ℕ → List ℕ → ℕ → Bool → List Row → ℕ → ℕ
-fateIn text list limit download rows k =
-    fateOf (col rows k 1) (ltb 0 (col rows k 23)) (ltb 0 (hitIn text list limit (getD rows k []))) download (repeatedIn text limit rows k)
-
--- a row with another fate and another contact
-abbrev pub withFate : Row → ℕ → ℕ → Row
-withFate r fate hit =
+-- a row with another fate
+abbrev pub withFate : Row → ℕ → Row
+withFate r fate =
     fate ∷ getD r 1 0 ∷ getD r 2 0 ∷ getD r 3 0 ∷ getD r 4 0 ∷ getD r 5 0 ∷ getD r 6 0 ∷ getD r 7 0 ∷ getD r 8 0 ∷ getD r 9 0
     ∷ getD r 10 0 ∷ getD r 11 0 ∷ getD r 12 0 ∷ getD r 13 0 ∷ getD r 14 0 ∷ getD r 15 0 ∷ getD r 16 0 ∷ getD r 17 0 ∷ getD r 18 0
-    ∷ getD r 19 0 ∷ getD r 20 0 ∷ getD r 21 0 ∷ hit ∷ getD r 23 0 ∷ getD r 24 0 ∷ getD r 25 0 ∷ getD r 26 0 ∷ getD r 27 0 ∷ []
+    ∷ getD r 19 0 ∷ getD r 20 0 ∷ getD r 21 0 ∷ getD r 22 0 ∷ getD r 23 0 ∷ getD r 24 0 ∷ getD r 25 0 ∷ getD r 26 0 ∷ getD r 27 0 ∷ []
 
-unfoldable pub fated : List Row → ℕ → ℕ → ℕ → List Row
-fated rows k fate hit = set rows k (withFate (getD rows k []) fate hit)
+unfoldable pub fated : List Row → ℕ → ℕ → List Row
+fated rows k fate = set rows k (withFate (getD rows k []) fate)
 
 -- row k of n is settled, and the chains have it if it is importable; all else is as it was
-pub record Step (text list : List ℕ) (limit : ℕ) (download : Bool) (n k : ℕ) (rows rows′ : List Row) : Type 0 where
-  pub fate : col rows′ k 0 ≡ fateIn text list limit download rows k
-  pub hit : col rows′ k 22 ≡ hitIn text list limit (getD rows k [])
+pub record Step (text : List ℕ) (limit : ℕ) (download : Bool) (n k : ℕ) (rows rows′ : List Row) : Type 0 where
+  pub fate : col rows′ k 0 ≡ fateIn text limit download rows k
   pub fates : (j : ℕ) → (j ≡ k → ⊥) → col rows′ j 0 ≡ col rows j 0
-  pub hits : (j : ℕ) → (j ≡ k → ⊥) → col rows′ j 22 ≡ col rows j 22
   pub kept : (j : ℕ) → keptOf (getD rows′ j []) ≡ keptOf (getD rows j [])
   pub lengths : length rows′ ≡ length rows
   pub behind : drop n rows′ ≡ drop n rows

@@ -1,7 +1,6 @@
 -- Each public call's promise is met by one answer. Assumes nothing.
-use mathlib.Core.Path.{sym, refl, _∙_}
-use denote.Ref.{now}
-use Rattle.text.proofs.Once.{Once, OnceWith}
+use mathlib.Core.Path.{sym, _∙_}
+use Rattle.text.proofs.Once.{Once}
 use Rattle.index.proofs.code_of.Reads as code-of
 use Rattle.index.proofs.code_of.Kinds as code-of-kinds
 use Rattle.index.proofs.number_in.Reads as number-in
@@ -14,10 +13,8 @@ use Rattle.index.proofs.has_moment.Reads as has-moment
 use Rattle.index.proofs.has_moment.Kinds as has-moment-kinds
 use Rattle.index.proofs.seconds_in.Reads as seconds-in
 use Rattle.index.proofs.seconds_in.Kinds as seconds-in-kinds
-use Rattle.index.proofs.clear.Reads as clear
-use Rattle.index.proofs.clear.Kinds as clear-kinds
-use Rattle.index.proofs.build.Reads as build
-use Rattle.index.proofs.build.Kinds as build-kinds
+use Rattle.index.proofs.row_at.Reads as row-at
+use Rattle.index.proofs.row_at.Kinds as row-at-kinds
 
 code-of-once : Once 3 code-of-kinds.ps code-of-kinds.r code-of.Post
 code-of-once κs a x y d e p q = p ∙ sym q
@@ -37,10 +34,5 @@ has-moment-once κs a x y d e p q = p ∙ sym q
 seconds-in-once : Once 0 seconds-in-kinds.ps seconds-in-kinds.r seconds-in.Post
 seconds-in-once κs a x y d e p q = p ∙ sym q
 
--- the index
-clear-once : OnceWith 1 clear-kinds.ps clear-kinds.r (λ κs d. now (d .0)) clear.Post
-clear-once κs a x y d e p q = (refl, p ∙ sym q)
-
--- the answer, and the index
-build-once : OnceWith 2 build-kinds.ps build-kinds.r (λ κs d. now (d .1 .0)) build.Post
-build-once κs a x y d e p q = (p .0 ∙ sym (q .0), p .1 ∙ sym (q .1))
+row-at-once : Once 1 row-at-kinds.ps row-at-kinds.r row-at.Post
+row-at-once κs a x y d e p q = p ∙ sym q

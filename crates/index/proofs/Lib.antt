@@ -1,4 +1,2 @@
 pub mod RowLaws
-pub mod ChainLaws
-pub mod BuildLaws
 pub mod Determined

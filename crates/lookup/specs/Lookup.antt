@@ -1,5 +1,5 @@
 -- For each contact of another list, the first contact of the list that it matches.
-use Prim.Native.Nat.{ℕ, zero, suc, _-_}
+use Prim.Native.Nat.{ℕ, zero, suc, _-_, _<_}
 use mathlib.Core.Path.{_≡_, refl}
 use mathlib.Core.List.{List, [], _∷_, _++_, map}
 use lib.ListN.{replicate}
@@ -10,8 +10,9 @@ use Rattle.contacts.specs.Contacts.{Contact, callOf, bandOf, modeOf}
 use Rattle.contacts.specs.Lists.{endAt, contactAt, listedAs, contactsOf}
 use Rattle.contacts.specs.declared.Listed.{Listed}
 use Rattle.contacts.specs.declared.Listed.the-variants.{Marked, Refused}
-use Rattle.index.specs.Index.{indexedAs}
-use Rattle.search.specs.Search.{momentIn, firstMatch}
+use Rattle.index.specs.Rows.{Row}
+use Rattle.indexing.specs.Index.{indexedAs, Sound}
+use Rattle.search.specs.Search.{momentIn, firstMatch, Indexed}
 
 abbrev pub matchFor : List ℕ → ℕ → Contact → ℕ
 matchFor s limit c = firstMatch (callOf c) (modeOf c) (bandOf c) (momentIn c) limit (contactsOf s)
@@ -37,6 +38,10 @@ foundAfter s limit other m room = foundBy (searchedAs s other m room) s limit ot
 unfoldable pub matchesFrom : List ℕ → ℕ → List ℕ → ℕ → ℕ → List ℕ
 matchesFrom s limit other zero at = []
 matchesFrom s limit other (suc k) at = matchFor s limit (contactAt other at) ∷ matchesFrom s limit other k (endAt other at)
+
+-- what looking up k contacts of the other list asks for, if there is one: the index of n contacts, and a list with as many as k
+unfoldable pub Asks : List ℕ → ℕ → List Row → List ℕ → ℕ → Type 0
+Asks s n rows other k = 0 < k → Indexed s n rows × Sound other k
 
 -- one contact to look up, and no number lent for it
 no-number : searchedBy 0 (Marked 3 9) (Marked 1 7) ≡ Refused ShortTable

@@ -1,63 +1,13 @@
 // A whole list looked up in another: the index is built once, and each contact searched in it.
 ghost use mathlib.Core.Path.{_≡_};
-ghost use Prim.Native.Nat.{ℕ, _≤_};
+ghost use Prim.Native.Nat.{_≤_};
 ghost use lib.ListN.{length, replicate};
 ghost use lib.Seq.{sets};
 ghost use Rattle.times.specs.Window.{limitOf};
-ghost use Rattle.times.specs.Moments.{momentOf};
-ghost use Rattle.contacts.specs.Lists.{textAt, contactAt, contactsOf, listedAs};
-ghost use Rattle.index.specs.Index.{indexAfter, Checked};
-ghost use Rattle.search.specs.Search.{firstMatch, Indexed};
-ghost use Rattle.lookup.specs.Lookup.{matchFor, matchesFrom, searchedAs, foundAfter};
-ghost use Rattle.lookup.specs.Parts.{LookedUp};
+ghost use Rattle.contacts.specs.Lists.{listedAs};
+ghost use Rattle.indexing.specs.Index.{indexAfter};
+ghost use Rattle.lookup.specs.Lookup.{Asks, matchesFrom, searchedBy, searchedAs, foundAfter};
 use contacts::Listed;
-use refusals::Refusal;
-
-// The match of a contact whose texts stand at these places of the other list.
-fn match_by(
-    list: &[u8],
-    rows: &[[u32; 14]],
-    n: usize,
-    other: &[u8],
-    call: usize,
-    date: usize,
-    time: usize,
-    band: usize,
-    mode: usize,
-    limit: u64,
-) -> usize
-    requires { ⌜ Indexed (now list) n (now rows) ⌝ }
-    ensures { λ r. ⌜ r ≡ firstMatch (textAt (now (other .entry)) call) (textAt (now (other .entry)) mode) (textAt (now (other .entry)) band) (momentOf (textAt (now (other .entry)) date) (textAt (now (other .entry)) time)) limit (contactsOf (now (list .entry))) ⌝ }
-{
-    let moment = times::moment_of(
-        contacts::text_at(other, date),
-        contacts::text_at(other, time),
-    );
-    search::find(
-        list,
-        rows,
-        n,
-        contacts::text_at(other, call),
-        contacts::text_at(other, mode),
-        false,
-        contacts::text_at(other, band),
-        false,
-        moment,
-        limit,
-    )
-}
-
-fn match_at(list: &[u8], rows: &[[u32; 14]], n: usize, other: &[u8], at: usize, limit: u64) -> usize
-    requires { ⌜ Indexed (now list) n (now rows) × (at ≤ 16777216) ⌝ }
-    ensures { λ r. ⌜ r ≡ matchFor (now (list .entry)) limit (contactAt (now (other .entry)) at) ⌝ }
-{
-    let call = at + 11;
-    let date = contacts::after_text(other, call);
-    let time = contacts::after_text(other, date);
-    let band = contacts::after_text(other, time);
-    let mode = contacts::after_text(other, band);
-    match_by(list, rows, n, other, call, date, time, band, mode, limit)
-}
 
 // The matches of the other list's k contacts.
 fn match_each(
@@ -69,13 +19,15 @@ fn match_each(
     limit: u64,
     found: &mut [u64],
 )
-    requires { ⌜ Indexed (now list) n (now rows) × (length (now other) ≤ 16777216) × (5 ≤ length (now other)) × (k ≤ length (now found)) × Checked (now other) k k 5 ⌝ }
+    requires { ⌜ (k ≤ length (now found)) × Asks (now list) n (now rows) (now other) k ⌝ }
     ensures { λ _. ⌜ now (found .exit) ≡ sets (now (found .entry)) 0 (matchesFrom (now (list .entry)) limit (now (other .entry)) k 5) ⌝ }
 {
     let mut at = 5;
     let mut i = 0;
     while i < k {
-        found[i] = match_at(list, rows, n, other, at, limit) as u64;
+        let wanted = wanted::wanted_at(other, at);
+        let hit = search::find(other, list, rows, n, wanted, limit);
+        found[i] = hit.number as u64;
         at = contacts::end_at(other, at);
         i += 1;
     }
@@ -91,28 +43,16 @@ fn clear(found: &mut [u64])
     }
 }
 
-// In an index that stands, and into numbers that are zero.
-fn look_in(
-    list: &[u8],
-    rows: &[[u32; 14]],
-    n: usize,
-    other: &[u8],
-    limit: u64,
-    found: &mut [u64],
-) -> Listed
-    requires { ⌜ Indexed (now list) n (now rows) × (now found ≡ replicate (length (now found)) 0) ⌝ }
-    ensures { λ r. ⌜ LookedUp (now (list .entry)) limit (now (other .entry)) (length (now (found .entry))) r (now (found .exit)) ⌝ }
+// The other list's mark, where there is an index to search and a number for each of its contacts.
+fn asked_of(built: Listed, other: &[u8], room: usize) -> Listed
+    ensures { λ r. ⌜ r ≡ searchedBy room built (listedAs (now (other .entry))) ⌝ }
 {
-    let listed = contacts::check(other);
-    match listed {
+    match built {
         Listed::Refused(why) => Listed::Refused(why),
-        Listed::Marked { contacts, largest } => {
-            if found.len() < contacts {
-                return Listed::Refused(Refusal::ShortTable);
-            }
-            match_each(list, rows, n, other, contacts, limit, found);
-            Listed::Marked { contacts, largest }
-        }
+        Listed::Marked {
+            contacts: _,
+            largest: _,
+        } => indexing::listed_in(other, room),
     }
 }
 
@@ -130,12 +70,16 @@ pub fn look_up(
 {
     clear(found);
     let limit = times::window::limit_of(window);
-    let built = index::build(list, rows);
-    match built {
-        Listed::Refused(why) => Listed::Refused(why),
-        Listed::Marked {
-            contacts,
-            largest: _,
-        } => look_in(list, rows, contacts, other, limit, found),
-    }
+    let built = indexing::build(list, rows);
+    let asked = asked_of(built, other, found.len());
+    match_each(
+        list,
+        rows,
+        indexing::count_in(built),
+        other,
+        indexing::count_in(asked),
+        limit,
+        found,
+    );
+    asked
 }

@@ -4,7 +4,7 @@ ghost use lib.ListN.{length};
 ghost use Rattle.times.specs.Window.{limitOf};
 ghost use Rattle.contacts.specs.Contacts.{contact};
 ghost use Rattle.contacts.specs.Lists.{listedAs, freshAgainst};
-ghost use Rattle.index.specs.Index.{indexedAs, indexAfter};
+ghost use Rattle.indexing.specs.Index.{indexedAs, indexAfter};
 ghost use Rattle.lookup.specs.Lookup.{searchedAs, foundAfter};
 ghost use Rattle.listwriter.specs.Append.{startAs, startAfter, appendAs, appendAfter};
 ghost use Rattle.ox_contacts.specs.Answers.{ofListed, ofFreshness, ofAppended};
@@ -83,7 +83,7 @@ pub extern "C" fn ox_contacts_index(list: &[u8], index: &mut [[u32; 14]]) -> Mar
     ensures { λ r. ⌜ r ≡ ofListed (indexedAs (now (list .entry)) (length (now (index .entry)))) ⌝ }
     ensures { λ _. ⌜ now (index .exit) ≡ indexAfter (now (list .entry)) (length (now (index .entry))) ⌝ }
 {
-    of_listed(index::build(list, index))
+    of_listed(indexing::build(list, index))
 }
 
 // For each contact of the other list the number, from 1, of the first contact of the list that it matches within the window, or 0.

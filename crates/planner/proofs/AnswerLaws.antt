@@ -18,16 +18,17 @@ use Rattle.adif.specs.Reading.{Row as Field, RowsRead}
 use Rattle.contacts.specs.Lists.{contactsOf}
 use Rattle.contacts.specs.declared.Listed.{Listed}
 use Rattle.contacts.specs.declared.Listed.the-variants.{Marked, Refused as RefusedList}
-use Rattle.index.specs.Index.{indexedAs}
+use Rattle.indexing.specs.Index.{indexedAs}
 use Rattle.plan.specs.Entry.{entriesFrom, entriesOf}
 use Rattle.plan.specs.Fates.{fatesIn}
 use Rattle.plan.specs.Plan.{Plan, planFrom, planned, countsWith, countsOf, hitsOf}
 use Rattle.entries.specs.Row.{Row, noRow}
 use Rattle.entries.proofs.ReadFit.{FitRead, text-fit}
-use Rattle.planner.specs.Planning.{Asked, readOf, planFor, made, plannedRead, plannedBy, plannedAs, fateRow, fateRows, padded, fatesBy, PlannedTo}
+use Rattle.closing.specs.Closed.{fateRows, padded}
+use Rattle.closing.proofs.PhaseLaws.{fates-are, fates-many}
+use Rattle.planner.specs.Planning.{Asked, readOf, planFor, made, plannedRead, plannedBy, plannedAs, fatesBy, PlannedTo}
 use Rattle.planner.specs.declared.Planned.{Planned}
 use Rattle.planner.specs.declared.Planned.the-variants.{Made, Refused}
-use Rattle.planner.proofs.PhaseLaws.{fates-are, fates-many}
 
 pub record MadeOf (a : Asked) (n cards already unmatched : ℕ) : Type 0 where
   pub within : n ≤ a .records

@@ -1,6 +1,4 @@
-pub mod Clearing
-pub mod KeptLaws
-pub mod PhaseLaws
+pub mod FinishLaws
 pub mod ResultLaws
 pub mod AnswerLaws
 pub mod Determined

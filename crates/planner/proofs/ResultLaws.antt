@@ -1,243 +1,220 @@
--- From what each step leaves to the definition. Assumes nothing.
+-- From what each phase leaves to the definition. Assumes nothing.
 use mathlib.Core.Path.{_≡_, refl, sym, ap, _∙_}
 use mathlib.Core.Bool.{Bool, true, false}
 use mathlib.Core.List.{List, [], _∷_, _++_, map}
-use Prim.Native.Nat.{ℕ, zero, suc, _+_, _-_, _/_, _≤_, _<_}
-use native.Mathlib.Nat.{zero-add}
+use Prim.Native.Nat.{ℕ, _/_, _≤_, _<_}
 use native.Mathlib.Omega.{arith}
 use lib.IntN.{ℤ}
-use lib.Dec.{leb, ltb}
-use lib.ListN.{length, getD, take, drop, replicate, length-map, length-replicate}
-use lib.Seq.{sets, sets-eq, length-take-le}
-use borrow.Author.Tests.{le-leb, lt-leb, leb-true, ltb-false}
+use lib.Dec.{leb}
+use lib.ListN.{length, take, drop, replicate, length-replicate}
+use lib.Seq.{sets, length-sets}
 use Rattle.text.specs.Pick.{pick}
 use Rattle.text.proofs.BoolLaws.{cases}
+use Rattle.times.specs.Window.{limitOf}
 use Rattle.refusals.specs.declared.Refusal.{Refusal}
-use Rattle.refusals.specs.Refusals.{ofText}
-use Rattle.refusals.specs.declared.Refusal.the-variants.{TooLong, ShortTable}
+use Rattle.refusals.specs.declared.Refusal.the-variants.{ShortTable}
+use Rattle.chain.specs.Chain.{col}
+use Rattle.chain.proofs.Fronts.{clear-all}
 use Rattle.adif.specs.Records.{records, refused, total}
-use Rattle.adif.specs.Reading.{Row as Field, RowsRead, readText}
-use Rattle.reader.specs.Table.{answerOf, tableOf, answerTo, tableAfter}
+use Rattle.adif.specs.Reading.{RowsRead, readText}
+use Rattle.reader.specs.Table.{tableOf, zeros}
 use Rattle.reader.specs.declared.Reading.{Reading}
 use Rattle.reader.specs.declared.Reading.the-variants.{Read, Refused as Unread}
-use Rattle.contacts.specs.Lists.{contactsOf}
+use Rattle.contacts.specs.Lists.{contactsOf, countOf, listedAs}
 use Rattle.contacts.specs.declared.Listed.{Listed}
 use Rattle.contacts.specs.declared.Listed.the-variants.{Marked, Refused as RefusedList}
+use Rattle.contacts.proofs.ListLaws.{accepted}
 use Rattle.index.specs.Rows as Index
-use Rattle.index.specs.Index.{indexedAs, indexAfter}
-use Rattle.index.proofs.BuildLaws.{drop-replicate}
-use Rattle.search.specs.Search.{Indexed}
-use Rattle.plan.specs.Entry.{Entry, entriesOf}
-use Rattle.plan.specs.Plan.{Plan, planFrom, planned, reasonsOf, hitsOf, fatesOf}
+use Rattle.indexing.specs.Index.{indexedAs, indexAfter, countIn}
+use Rattle.indexing.proofs.BuildLaws.{indexed-listed}
+use Rattle.search.specs.Search.{placeOf, Indexed}
+use Rattle.plan.specs.Entry.{entriesOf}
+use Rattle.plan.specs.Plan.{Plan, planned}
 use Rattle.entries.specs.Row.{Row, noRow}
 use Rattle.entries.specs.Filled.{ReadInto, entriesRead}
-use Rattle.cards.specs.Carded.{cardRow, noCard}
-use Rattle.cards.specs.declared.Carded.{Carded}
-use Rattle.cards.specs.declared.Carded.the-variants.{Counted, Full}
-use Rattle.planner.specs.Planning.{Asked, askedOf, asked, readOf, planFor, made, plannedRead, plannedBy, plannedAs, fateRow, fateRows, padded, tableBy, indexBy, fatesBy, cardsBy, PlannedTo}
-use Rattle.planner.specs.Phases.{countedBy, Recorded, planRead, keptRow, keptRows, Begun, ReadAs}
+use Rattle.entries.specs.Walked.{entryRows}
+use Rattle.entries.proofs.FilledLaws.{filled-length, filled-behind, filled-said, filled-answered, filled-bare}
+use Rattle.cards.specs.Carded.{noCard}
+use Rattle.logged.specs.Logged.{loggedRows, Searchable}
+use Rattle.logged.proofs.FoundLaws.{place-few}
+use Rattle.logged.proofs.LoggedLaws.{logged-length, logged-behind, logged-said, logged-answered, logged-bare, logged-places, logged-hits, logged-within}
+use Rattle.fates.specs.Fated.{Found}
+use Rattle.opening.specs.Opened.{readBy, openedAs, openedTable, openedFates, Opened, recordsIn}
+use Rattle.opening.proofs.OpenLaws.{Known, opened-known, known-into}
+use Rattle.closing.specs.Phases.{Searched, planRead}
+use Rattle.planner.specs.Planning.{Asked, askedOf, asked, readOf, planFor, made, plannedRead, plannedBy, plannedAs, tableBy, indexBy, fatesBy, cardsBy, PlannedTo}
+use Rattle.planner.specs.Finished.{largestIn, goneOf, Ready, finishedAs, finishedTable, finishedFates, finishedCards, Finished}
 use Rattle.planner.specs.declared.Planned.{Planned}
 use Rattle.planner.specs.declared.Planned.the-variants.{Made, Refused}
-use Rattle.planner.proofs.KeptLaws.{kept-are}
-use Rattle.planner.proofs.PhaseLaws.{unread-read}
 
--- ---- a text that was read has records
-read-some : (r : RowsRead) (n used : ℕ) → answerOf r ≡ Read n used → (rs : List (List Field)) × (r ≡ records rs) × (length rs ≡ n) × (total rs ≡ used)
-read-some (records rs) n used e = (rs, refl, cc, cc)
-read-some (refused w) n used e = unread-read w n used e
+-- ---- the answer is that of the reading and of what comes of it
+read-is : (a : Asked) (n top : ℕ) (r : RowsRead) → readOf a ≡ r → plannedRead a n top r ≡ finishedAs (planFor a (readOf a)) (Marked n top) (a .confirmations) (readBy (a .records) r)
+unfolding plannedRead finishedAs readBy countIn largestIn
+read-is a n top (refused why) e = refl
+read-is a n top (records rs) e = rw e (by (leb (length rs) (a .records)))
+  where
+    by : (u : Bool) → pick u (pick (leb (length (planFor a (records rs) .confirmations)) (a .confirmations)) (made (planFor a (records rs)) (length rs) (total rs) n top) (Refused ShortTable)) (Refused ShortTable)
+        ≡ finishedAs (planFor a (records rs)) (Marked n top) (a .confirmations) (pick u (Read (length rs) (total rs)) (Unread ShortTable))
+    by true = refl
+    by false = refl
 
--- ---- an answer that refuses, and nothing left
-pub stopped : (a : Asked) (why : Refusal) → Refused why ≡ plannedAs a → (table : List ℕ) (index fates cards : List (List ℕ))
-    → table ≡ replicate (a .numbers) 0 → index ≡ replicate (a .contacts) Index.noRow → fates ≡ replicate (a .records) noRow → cards ≡ replicate (a .confirmations) noCard
-    → PlannedTo a (Refused why) table index fates cards
-unfolding tableBy indexBy fatesBy cardsBy
-stopped a why e table index fates cards t i f c = record { answer = e; tabled = t ∙ rw (← e) refl; indexed = i ∙ rw (← e) refl; fated = f ∙ rw (← e) refl; carded = c ∙ rw (← e) refl }
+listed-is : (a : Asked) (l : Listed) → plannedBy a l ≡ finishedAs (planFor a (readOf a)) l (a .confirmations) (openedAs (a .text) l (a .numbers) (a .records))
+unfolding plannedBy openedAs finishedAs
+listed-is a (RefusedList why) = refl
+listed-is a (Marked n top) = read-is a n top (readOf a) refl
 
-pub stopped-by : (a : Asked) (why : Refusal) → Refused why ≡ plannedAs a → (table : List ℕ) (index fates cards : List (List ℕ)) (t i f c : ℕ)
-    → table ≡ replicate t 0 → index ≡ replicate i Index.noRow → fates ≡ replicate f noRow → cards ≡ replicate c noCard
-    → t ≡ a .numbers → i ≡ a .contacts → f ≡ a .records → c ≡ a .confirmations
-    → PlannedTo a (Refused why) table index fates cards
-stopped-by a why e table index fates cards t i f c T I F C et ei ef ec =
-    stopped a why e table index fates cards (T ∙ ap (λ (k : ℕ). replicate k 0) et) (I ∙ ap (λ (k : ℕ). replicate k Index.noRow) ei) (F ∙ ap (λ (k : ℕ). replicate k noRow) ef) (C ∙ ap (λ (k : ℕ). replicate k noCard) ec)
+planned-is : (a : Asked) → plannedAs a ≡ finishedAs (planFor a (readOf a)) (indexedAs (a .list) (a .contacts)) (a .confirmations) (openedAs (a .text) (indexedAs (a .list) (a .contacts)) (a .numbers) (a .records))
+unfolding plannedAs
+planned-is a = listed-is a (indexedAs (a .list) (a .contacts))
 
--- rows in front of zeros
-pub laid-padded : (rows : List (List ℕ)) (n : ℕ) (blank : List ℕ) (m : ℕ) (w : List (List ℕ)) → length w ≡ n → n ≤ length rows → drop n rows ≡ drop n (replicate m blank) → sets rows 0 w ≡ padded w blank m
-laid-padded rows n blank m w l h d =
-    sets-eq w rows 0 (omega (arith, l))
-    ∙ ap (λ (r : List (List ℕ)). w ++ r) (ap (λ (k : ℕ). drop k rows) (zero-add (length w) ∙ l) ∙ d ∙ drop-replicate n m blank ∙ ap (λ (k : ℕ). replicate (m - k) blank) (sym l))
+unmade : {P : Type 0} (why : Refusal) (n used c already unmatched contacts top : ℕ) → Made n used c already unmatched contacts top ≡ Refused why → P
+unmade why n used c already unmatched contacts top e = absurd (let z : _≡_ {A = ℕ} 0 1 = cc in omega arith)
 
--- a text that was refused
-unread-is : (a : Asked) (contacts largest : ℕ) (why : Refusal) (r : RowsRead) → answerOf r ≡ Unread why → Refused why ≡ plannedRead a contacts largest r
-unfolding plannedRead
-unread-is a contacts largest why (records rs) e = unread-read why (length rs) (total rs) (sym e)
-unread-is a contacts largest why (refused w) e = let z : w ≡ why = cc in ap (λ (x : Refusal). Refused x) (sym z)
+opened-length : (text : List ℕ) (numbers lent : ℕ) (r : Reading) → length (openedFates text numbers lent r) ≡ lent
+unfolding openedFates
+opened-length text numbers lent (Read n used) = length-sets (replicate lent noRow) 0 (entryRows text (readText text (numbers / 5))) ∙ length-replicate lent noRow
+opened-length text numbers lent (Unread why) = length-replicate lent noRow
 
--- what the phases said
-full-counted : {P : Type 0} (c already unmatched : ℕ) → Full ≡ Counted c already unmatched → P
-full-counted c already unmatched e = absurd (let z : _≡_ {A = ℕ} 0 1 = cc in omega arith)
-
-counted-some : (p : Plan) (m c already unmatched : ℕ) → countedBy p m ≡ Counted c already unmatched
-    → (leb (length (p .confirmations)) m ≡ true) × (c ≡ length (p .confirmations)) × (already ≡ p .already) × (unmatched ≡ p .unmatched)
-counted-some p m c already unmatched e =
-    cases (leb (length (p .confirmations)) m)
-    (λ u. let z : Counted (length (p .confirmations)) (p .already) (p .unmatched) ≡ Counted c already unmatched = rw u at e in (u, cc, cc, cc))
-    (λ u. full-counted c already unmatched (rw u at e))
-
-counted-full : (p : Plan) (m : ℕ) → countedBy p m ≡ Full → leb (length (p .confirmations)) m ≡ false
-counted-full p m e =
-    cases (leb (length (p .confirmations)) m)
-    (λ u. full-counted (length (p .confirmations)) (p .already) (p .unmatched) (sym (rw u at e)))
-    (λ u. u)
-
--- ---- after the index is built
-module _ (text list : List ℕ) (window : ℤ) (download : Bool) (contacts largest : ℕ) (table₀ : List ℕ) (index fates cards : List (List ℕ)) (B : Begun list contacts largest index fates cards) where
+-- ---- after the index is built and the text is read
+module _ (text list : List ℕ) (window : ℤ) (download : Bool) (table₀ : List ℕ) (index₀ fates₀ cards₀ : List (List ℕ))
+    (listed : Listed) (el : listed ≡ indexedAs list (length index₀)) (index₁ : List (List ℕ)) (ei : index₁ ≡ indexAfter list (length index₀)) (li : length index₁ ≡ length index₀)
+    (reading : Reading) (table₁ : List ℕ) (fates₁ cards₁ : List (List ℕ)) (O : Opened text listed (length table₀) (length fates₀) (length cards₀) reading table₁ fates₁ cards₁) (lt : length table₁ ≡ length table₀) where
   abbrev a : Asked
-  a = asked text list window download table₀ index fates cards
+  a = asked text list window download table₀ index₀ fates₀ cards₀
 
-  by-list : plannedAs a ≡ plannedRead a contacts largest (readOf a)
-  unfolding plannedAs plannedBy
-  by-list = rw (B .listed) refl
+  fates-lent : length fates₁ ≡ length fates₀
+  fates-lent = ap length (O .fated) ∙ opened-length text (length table₀) (length fates₀) reading
 
-  pub unread : (why : Refusal) (r : Reading) → r ≡ answerTo text table₀ → r ≡ Unread why → Refused why ≡ plannedAs a
-  unfolding answerTo
-  unread why r ea er = unread-is a contacts largest why (readOf a) (sym ea ∙ er) ∙ sym by-list
+  cards-lent : length cards₁ ≡ length cards₀
+  cards-lent = ap length (O .carded) ∙ length-replicate (length cards₀) noCard
 
-pub begun-indexed : (list : List ℕ) (contacts largest : ℕ) (index fates cards : List (List ℕ)) → Begun list contacts largest index fates cards → Indexed list contacts index
-unfolding Indexed
-begun-indexed list contacts largest index fates cards B = (largest, B .listed, B .indexed)
+  known : (n used : ℕ) → reading ≡ Read n used → Known text listed (length table₀) (length fates₀) n used table₁ fates₁
+  known n used e = opened-known text listed (length table₀) (length fates₀) (length cards₀) reading table₁ fates₁ cards₁ n used O e
 
-pub read-into : (text table : List ℕ) (n used : ℕ) → ReadAs text table n used → ReadInto text table n
-read-into text table n used R = record { used = used; small = R .small; answer = R .answer; shown = R .shown }
+  -- what is asked for looking up
+  look-room : (r : Reading) → reading ≡ r → recordsIn r ≤ length fates₁
+  unfolding recordsIn
+  look-room (Unread why) e = omega arith
+  look-room (Read n used) e = omega (arith, known n used e .room, fates-lent)
 
--- ---- and the text is read
-module _ (text list : List ℕ) (window : ℤ) (download : Bool) (contacts largest n used : ℕ) (table : List ℕ) (index fates cards : List (List ℕ))
-    (B : Begun list contacts largest index fates cards) (R : ReadAs text table n used) where
-  abbrev b : Asked
-  b = asked text list window download table index fates cards
+  look-for : (r : Reading) → reading ≡ r → 0 < recordsIn r → Indexed list (countIn listed) index₁
+  unfolding recordsIn Indexed countIn
+  look-for (Unread why) e h = absurd (omega arith)
+  look-for (Read n used) e h =
+      let K = known n used e in
+      let m : indexedAs list (length index₁) ≡ Marked (K .contacts) (K .largest) = rw li (sym el ∙ K .marked) in
+      rw (K .marked) (K .largest, m, rw li ei)
 
-  abbrev plan : Plan
-  plan = planRead text list window download table
+  pub asked-room : (n : ℕ) → n ≡ recordsIn reading → n ≤ length fates₁
+  asked-room n e = rw e (look-room reading refl)
 
-  rs : List (List Field)
-  rs = read-some (readOf b) n used (R .answer) .0
+  pub asked-searchable : (contacts n : ℕ) → contacts ≡ countIn listed → n ≡ recordsIn reading → Searchable list contacts index₁ n
+  unfolding Searchable
+  asked-searchable contacts n ec en h = rw ec (look-for reading refl (rw en at h))
 
-  rs-read : readOf b ≡ records rs
-  unfolding rs read-some
-  rs-read = read-some (readOf b) n used (R .answer) .1
+  -- looked up
+  module _ (limit : ℕ) (eli : limit ≡ limitOf window) (k : ℕ) (ek : k ≡ recordsIn reading) (fates₂ : List (List ℕ)) (eg : fates₂ ≡ sets fates₁ 0 (loggedRows text list limit fates₁ k)) where
+    looked : (n used : ℕ) → reading ≡ Read n used → fates₂ ≡ sets fates₁ 0 (loggedRows text list limit fates₁ n)
+    unfolding recordsIn
+    looked n used e = let z : k ≡ n = ek ∙ ap recordsIn e in rw z at eg
 
-  rs-many : length rs ≡ n
-  unfolding rs read-some
-  rs-many = read-some (readOf b) n used (R .answer) .2
+    searched : (n used : ℕ) → reading ≡ Read n used → Searched text list table₁ window n fates₂
+    unfolding Found
+    searched n used e =
+        let K = known n used e in
+        let R : ReadInto text table₁ n = known-into text listed (length fates₀) n used table₁ (length table₀) fates₁ K lt in
+        let blank : List Row = replicate (length fates₀) noRow in
+        let lb : length blank ≡ length fates₀ = length-replicate (length fates₀) noRow in
+        let room : n ≤ length blank = omega (arith, K .room) in
+        let ef = rw (← lt) at (K .fated) in
+        let S = filled-said text table₁ n R blank fates₁ room ef in
+        let A = filled-answered text table₁ n R blank fates₁ room ef in
+        let B = filled-bare text table₁ n R blank fates₁ room ef in
+        let D = filled-behind text table₁ n R blank fates₁ room ef in
+        let l : n ≤ length fates₁ = omega (arith, K .room, fates-lent) in
+        let g = looked n used e in
+        let w = logged-within text list limit n fates₁ fates₂ l g window eli (entriesRead text table₁) S in
+        let q : listedAs list ≡ Marked (K .contacts) (K .largest) = indexed-listed list (length index₀) (K .contacts) (K .largest) (sym el ∙ K .marked) in
+        let c : K .contacts ≡ countOf list = accepted list (K .contacts) (K .largest) q .count in
+        record {
+          read = R;
+          said = logged-said text list limit n fates₁ fates₂ l g (entriesRead text table₁) S;
+          answered = logged-answered text list limit n fates₁ fates₂ l g table₁ (entriesRead text table₁) A;
+          bare = logged-bare text list limit n fates₁ fates₂ l g B;
+          hits = logged-hits text list limit n fates₁ fates₂ l g window eli (entriesRead text table₁) S;
+          numbers = w;
+          places = logged-places text list limit n fates₁ fates₂ l g;
+          within = λ j h. rw (logged-places text list limit n fates₁ fates₂ l g j h) (place-few list (K .contacts) (K .largest) q (col fates₂ j 22) (omega (arith, w j h, c)));
+          behind = logged-behind text list limit n fates₁ fates₂ l g ∙ D ∙ ap (λ (m : ℕ). drop n (replicate m noRow)) (sym (logged-length text list limit n fates₁ fates₂ l g ∙ fates-lent));
+        }
 
-  rs-rows : total rs ≡ used
-  unfolding rs read-some
-  rs-rows = read-some (readOf b) n used (R .answer) .3
+    ready-by : (r : Reading) → reading ≡ r → Ready text list window r table₁ fates₂ cards₁
+    unfolding Ready
+    ready-by (Unread why) e = tt
+    ready-by (Read n used) e = (searched n used e, O .carded ∙ ap (λ (m : ℕ). replicate m noCard) (sym cards-lent))
 
-  by-read : plannedAs b
-      ≡ pick (leb n (length fates)) (pick (leb (length (plan .confirmations)) (length cards)) (made plan n used contacts largest) (Refused ShortTable)) (Refused ShortTable)
-  unfolding plannedRead
-  by-read = by-list text list window download contacts largest table index fates cards B ∙ rw (rs-read, rs-many, rs-rows) refl
+    pub ready-now : Ready text list window reading table₁ fates₂ cards₁
+    ready-now = ready-by reading refl
 
-  pub short-fates : length fates < n → Refused ShortTable ≡ plannedAs b
-  short-fates h = sym (by-read ∙ rw (lt-leb n (length fates) h) refl)
+    fates-as : length fates₂ ≡ length fates₀
+    fates-as = ap length eg ∙ length-sets fates₁ 0 (loggedRows text list limit fates₁ k) ∙ fates-lent
 
-  module _ (h : n ≤ length fates) (r : Carded) (rows′ cards′ : List (List ℕ)) (P : Recorded plan n fates cards r rows′ cards′) where
-    pub short-cards : r ≡ Full → Refused ShortTable ≡ plannedAs b
-    short-cards e = sym (by-read ∙ rw (le-leb n (length fates) h, counted-full plan (length cards) (sym (P .answer) ∙ e)) refl)
+    -- nothing is looked up of a reading that was refused
+    unread-fates : (why : Refusal) → reading ≡ Unread why → fates₂ ≡ replicate (length fates₀) noRow
+    unfolding openedFates recordsIn
+    unread-fates why e = let z : k ≡ 0 = ek ∙ ap recordsIn e in (rw z at eg) ∙ O .fated ∙ rw e refl
 
-    pub full-stopped : r ≡ Full → (table″ : List ℕ) (index″ fates″ cards″ : List (List ℕ)) → table″ ≡ replicate (length table) 0 → index″ ≡ replicate (length index) Index.noRow
-        → fates″ ≡ replicate (length rows′) noRow → cards″ ≡ replicate (length cards′) noCard → PlannedTo b (Refused ShortTable) table″ index″ fates″ cards″
-    full-stopped e table″ index″ fates″ cards″ T I F C =
-        stopped-by b ShortTable (short-cards e) table″ index″ fates″ cards″ (length table) (length index) (length rows′) (length cards′) T I F C refl refl (P .as-many) (P .as-many-cards)
+    -- and finished
+    module _ (r : Planned) (table₂ : List ℕ) (fates₃ cards₂ : List (List ℕ)) (F : Finished text list window download listed reading table₁ fates₂ cards₁ r table₂ fates₃ cards₂) where
+      same-plan : planRead text list window download table₁ ≡ planFor a (readOf a)
+      same-plan = rw lt refl
 
-    pub kept-room : n ≤ length rows′
-    kept-room = omega (arith, P .as-many)
+      answer-is : r ≡ plannedAs a
+      answer-is =
+          F .answer
+          ∙ rw (same-plan, cards-lent, O .answer, el) refl
+          ∙ sym (planned-is a)
 
-    module _ (c already unmatched : ℕ) (e : r ≡ Counted c already unmatched) where
-      some : (leb (length (plan .confirmations)) (length cards) ≡ true) × (c ≡ length (plan .confirmations)) × (already ≡ plan .already) × (unmatched ≡ plan .unmatched)
-      some = counted-some plan (length cards) c already unmatched (sym (P .answer) ∙ e)
+      table-by : (x : Reading) (y : Planned) → reading ≡ x → r ≡ y → table₁ ≡ openedTable text (length table₀) x → finishedTable table₁ x y ≡ tableBy a y
+      unfolding openedTable finishedTable tableBy finishedAs
+      table-by (Unread why) (Refused w) ex ey e = e
+      table-by (Read n used) (Refused w) ex ey e = ap zeros lt
+      table-by (Read n used) (Made b c d f g h i) ex ey e = e
+      table-by (Unread why) (Made b c d f g h i) ex ey e = unmade why b c d f g h i (sym ey ∙ F .answer ∙ rw ex refl)
 
-      whole : Made n used c already unmatched contacts largest ≡ plannedAs b
-      unfolding made
-      whole = sym (by-read ∙ rw (le-leb n (length fates) h, some .0, ← some .1, ← some .2, ← some .3) refl)
+      fates-by : (x : Reading) (y : Planned) → reading ≡ x → r ≡ y → finishedFates (planFor a (readOf a)) fates₂ x y ≡ fatesBy a y
+      unfolding finishedFates fatesBy finishedAs
+      fates-by (Unread why) (Refused w) ex ey = unread-fates why ex
+      fates-by (Read n used) (Refused w) ex ey = ap (λ (m : ℕ). replicate m noRow) fates-as
+      fates-by (Read n used) (Made b c d f g h i) ex ey = rw fates-as refl
+      fates-by (Unread why) (Made b c d f g h i) ex ey = unmade why b c d f g h i (sym ey ∙ F .answer ∙ rw ex refl)
 
-      module _ (last : List Row) (k : last ≡ sets rows′ 0 (keptRows rows′ n)) where
-        kept-n : length (keptRows rows′ n) ≡ n
-        kept-n = length-map (take n rows′) keptRow ∙ length-take-le n rows′ kept-room
+      cards-by : (x : Reading) (y : Planned) → reading ≡ x → r ≡ y → finishedCards (planFor a (readOf a)) cards₁ x y ≡ cardsBy a y
+      unfolding finishedCards cardsBy finishedAs
+      cards-by (Unread why) (Refused w) ex ey = O .carded
+      cards-by (Read n used) (Refused w) ex ey = ap (λ (m : ℕ). replicate m noCard) cards-lent
+      cards-by (Read n used) (Made b c d f g h i) ex ey = rw cards-lent refl
+      cards-by (Unread why) (Made b c d f g h i) ex ey = unmade why b c d f g h i (sym ey ∙ F .answer ∙ rw ex refl)
 
-        fates-laid : last ≡ padded (fateRows (plan .fates) (plan .reasons)) noRow (length fates)
-        fates-laid =
-            k
-            ∙ laid-padded rows′ n noRow (length fates) (keptRows rows′ n) kept-n kept-room (P .behind ∙ ap (λ (x : List Row). drop n x) (B .no-fates))
-            ∙ ap (λ (w : List Row). padded w noRow (length fates)) (kept-are (plan .fates) (plan .reasons) rows′ n (P .every-fate) (P .every-reason) kept-room (P .fates) (P .reasons))
+      -- the index is kept, or cleared
+      index-by : (y : Planned) (m : ℕ) (index₂ : List (List ℕ)) → m ≡ goneOf y (length index₁) → index₂ ≡ sets index₁ 0 (replicate m Index.noRow) → index₂ ≡ indexBy a y
+      unfolding goneOf indexBy
+      index-by (Made b c d f g h i) m index₂ em e = (rw em at e) ∙ ei
+      index-by (Refused w) m index₂ em e = clear-all Index.noRow m index₁ index₂ em e ∙ ap (λ (n : ℕ). replicate n Index.noRow) li
 
-        fits : length (plan .confirmations) ≤ length cards
-        fits = leb-true (length (plan .confirmations)) (length cards) (some .0)
+      pub planned-to : (m : ℕ) (index₂ : List (List ℕ)) → m ≡ goneOf r (length index₁) → index₂ ≡ sets index₁ 0 (replicate m Index.noRow) → PlannedTo a r table₂ index₂ fates₃ cards₂
+      planned-to m index₂ em e = record {
+        answer = answer-is;
+        tabled = F .tabled ∙ table-by reading r refl refl (O .tabled) ∙ ap (tableBy a) answer-is;
+        indexed = index-by r m index₂ em e ∙ ap (indexBy a) answer-is;
+        fated = F .fated ∙ rw same-plan (fates-by reading r refl refl) ∙ ap (fatesBy a) answer-is;
+        carded = F .carded ∙ rw same-plan (cards-by reading r refl refl) ∙ ap (cardsBy a) answer-is;
+      }
 
-        new-n : length (map cardRow (plan .confirmations)) ≡ length (plan .confirmations)
-        new-n = length-map (plan .confirmations) cardRow
-
-        cards-laid : cards′ ≡ padded (map cardRow (plan .confirmations)) noCard (length cards)
-        cards-laid =
-            P .recorded fits
-            ∙ laid-padded cards (length (plan .confirmations)) noCard (length cards) (map cardRow (plan .confirmations)) new-n fits (ap (λ (x : List (List ℕ)). drop (length (plan .confirmations)) x) (B .no-cards))
-
-        pub planned-all : PlannedTo b (Made n used c already unmatched contacts largest) table index last cards′
-        unfolding tableBy indexBy fatesBy cardsBy
-        planned-all =
-            record {
-              answer = whole;
-              tabled = R .shown ∙ rw (← whole) refl;
-              indexed = B .indexed ∙ rw (← whole) refl;
-              fated = fates-laid ∙ rw (← whole) refl;
-              carded = cards-laid ∙ rw (← whole) refl;
-            }
-
--- ---- the text just read
-small-read : (s : List ℕ) (room n used : ℕ) → answerOf (readText s room) ≡ Read n used → length s ≤ 16777216
-unfolding readText ofText
-small-read s room n used e =
-    cases (ltb 16777216 (length s))
-    (λ u. unread-read TooLong n used (rw u at e))
-    (λ u. ltb-false 16777216 (length s) u)
-
-pub read-as : (text was table : List ℕ) (n used : ℕ) (r : Reading) → r ≡ answerTo text was → r ≡ Read n used → table ≡ tableAfter text was → length table ≡ length was → ReadAs text table n used
-unfolding answerTo tableAfter
-read-as text was table n used r ea er et l =
-    let e : answerOf (readText text (length table / 5)) ≡ Read n used = rw l (sym ea ∙ er) in
-    record { small = small-read text (length table / 5) n used e; answer = e; shown = rw l et }
-
--- ---- what is asked depends on the lengths of the tables alone
-module _ (text list : List ℕ) (window v : ℤ) (download : Bool) (t i f c t′ i′ f′ c′ : ℕ) (r : Planned) (table : List ℕ) (index fates cards : List (List ℕ)) where
-  pub moved : PlannedTo (askedOf text list v download t′ i′ f′ c′) r table index fates cards → v ≡ window → t′ ≡ t → i′ ≡ i → f′ ≡ f → c′ ≡ c → PlannedTo (askedOf text list window download t i f c) r table index fates cards
-  moved k ev et ei ef ec = rw (ev, et, ei, ef, ec) at k
-
--- ---- the text is refused
-pub unread-stopped : (text list : List ℕ) (window : ℤ) (download : Bool) (contacts largest : ℕ) (was table : List ℕ) (index fates cards : List (List ℕ)) → Begun list contacts largest index fates cards
-    → (r : Reading) (why : Refusal) → r ≡ answerTo text was → r ≡ Unread why → table ≡ tableAfter text was
-    → (table′ : List ℕ) (index′ fates′ cards′ : List (List ℕ))
-    → table′ ≡ replicate (length table) 0 → index′ ≡ replicate (length index) Index.noRow → fates′ ≡ replicate (length fates) noRow → cards′ ≡ replicate (length cards) noCard
-    → length table ≡ length was → PlannedTo (asked text list window download was index fates cards) (Refused why) table′ index′ fates′ cards′
-unread-stopped text list window download contacts largest was table index fates cards B r why ea er et table′ index′ fates′ cards′ T I F C l =
-    stopped-by (asked text list window download was index fates cards) why (unread text list window download contacts largest was index fates cards B why r ea er) table′ index′ fates′ cards′ (length table) (length index) (length fates) (length cards) T I F C l refl refl refl
-
--- ---- the list is refused
-pub unlisted : (a : Asked) (l : Listed) (why : Refusal) → l ≡ indexedAs (a .list) (a .contacts) → l ≡ RefusedList why → Refused why ≡ plannedAs a
-unfolding plannedAs plannedBy
-unlisted a l why el e = rw (← el, e) refl
-
-pub begun : (list : List ℕ) (l : Listed) (contacts largest : ℕ) (was index fates cards fates₀ cards₀ : List (List ℕ)) → l ≡ indexedAs list (length was) → l ≡ Marked contacts largest → index ≡ indexAfter list (length was)
-    → fates ≡ replicate (length fates₀) noRow → cards ≡ replicate (length cards₀) noCard → length index ≡ length was → Begun list contacts largest index fates cards
-begun list l contacts largest was index fates cards fates₀ cards₀ el e ei ef ec li =
-    let lf : length fates ≡ length fates₀ = ap length ef ∙ length-replicate (length fates₀) noRow in
-    let lc : length cards ≡ length cards₀ = ap length ec ∙ length-replicate (length cards₀) noCard in
-    record { listed = rw li (sym el ∙ e); indexed = rw li ei; no-fates = rw lf ef; no-cards = rw lc ec }
-
-pub unlisted-stopped : (text list : List ℕ) (window : ℤ) (download : Bool) (table : List ℕ) (was fates₀ cards₀ index fates cards : List (List ℕ)) (l : Listed) (why : Refusal)
-    → l ≡ indexedAs list (length was) → l ≡ RefusedList why → index ≡ indexAfter list (length was) → fates ≡ replicate (length fates₀) noRow → cards ≡ replicate (length cards₀) noCard
-    → (table′ : List ℕ) (index′ fates′ cards′ : List (List ℕ))
-    → table′ ≡ replicate (length table) 0 → index′ ≡ replicate (length index) Index.noRow → fates′ ≡ replicate (length fates) noRow → cards′ ≡ replicate (length cards) noCard
-    → length index ≡ length was → PlannedTo (asked text list window download table was fates₀ cards₀) (Refused why) table′ index′ fates′ cards′
-unlisted-stopped text list window download table was fates₀ cards₀ index fates cards l why el e ei ef ec table′ index′ fates′ cards′ T I F C li =
-    let a : Asked = asked text list window download table was fates₀ cards₀ in
-    stopped-by a why (unlisted a l why el e) table′ index′ fates′ cards′ (length table) (length index) (length fates) (length cards) T I F C refl li (ap length ef ∙ length-replicate (length fates₀) noRow) (ap length ec ∙ length-replicate (length cards₀) noCard)
+pub gone-within : (p : Planned) (m n : ℕ) → n ≡ goneOf p m → n ≤ m
+unfolding goneOf
+gone-within p m n e = rw e (by p)
+  where
+    by : (q : Planned) → goneOf q m ≤ m
+    by (Made b c d f g h i) = omega arith
+    by (Refused w) = omega arith

@@ -1,2 +1,2 @@
 pub mod Planning
-pub mod Phases
+pub mod Finished

@@ -1,9 +1,9 @@
 -- What planning answers, and what it leaves in the lent tables. The refusals come in this order: the list's, 19 for the index, the
 -- reader's, 19 for the fates, 19 for the confirmations. After a refusal every table is zero throughout; else all past what is used.
-use Prim.Native.Nat.{ℕ, zero, suc, _-_, _/_}
+use Prim.Native.Nat.{ℕ, _/_}
 use mathlib.Core.Path.{_≡_}
 use mathlib.Core.Bool.{Bool}
-use mathlib.Core.List.{List, [], _∷_, _++_, map}
+use mathlib.Core.List.{List, map}
 use lib.IntN.{ℤ}
 use lib.Dec.{leb}
 use lib.ListN.{length, replicate}
@@ -18,11 +18,12 @@ use Rattle.contacts.specs.Lists.{contactsOf}
 use Rattle.contacts.specs.declared.Listed.{Listed}
 use Rattle.contacts.specs.declared.Listed.the-variants.{Marked, Refused as RefusedList}
 use Rattle.index.specs.Rows as Index
-use Rattle.index.specs.Index.{indexedAs, indexAfter}
+use Rattle.indexing.specs.Index.{indexedAs, indexAfter}
 use Rattle.plan.specs.Entry.{Entry, entriesOf}
 use Rattle.plan.specs.Plan.{Plan, planned}
 use Rattle.entries.specs.Row.{Row, noRow}
 use Rattle.cards.specs.Carded.{cardRow, noCard}
+use Rattle.closing.specs.Closed.{fateRows, padded}
 use Rattle.planner.specs.declared.Planned.{Planned}
 use Rattle.planner.specs.declared.Planned.the-variants.{Made, Refused}
 
@@ -65,19 +66,6 @@ unfoldable pub plannedAs : Asked → Planned
 plannedAs a = plannedBy a (indexedAs (a .list) (a .contacts))
 
 -- ---- the tables after it
--- a record's fate and reason, the rest zero
-abbrev pub fateRow : ℕ → ℕ → Row
-fateRow fate reason = fate ∷ reason ∷ replicate 26 0
-
-abbrev pub fateRows : List ℕ → List ℕ → List Row
-fateRows [] reasons = []
-fateRows (f ∷ fs) [] = fateRow f 0 ∷ fateRows fs []
-fateRows (f ∷ fs) (r ∷ rs) = fateRow f r ∷ fateRows fs rs
-
--- rows in front, and zero behind them
-abbrev pub padded : List (List ℕ) → List ℕ → ℕ → List (List ℕ)
-padded rows blank m = rows ++ replicate (m - length rows) blank
-
 unfoldable pub tableBy : Asked → Planned → List ℕ
 tableBy a (Made n used cards already unmatched contacts top) = tableOf (readOf a) (a .numbers)
 tableBy a (Refused why) = zeros (a .numbers)

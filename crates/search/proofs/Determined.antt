@@ -14,5 +14,5 @@ moment-from-once κs a x y d e p q = p ∙ sym q
 is-near-once : Once 0 is-near-kinds.ps is-near-kinds.r is-near.Post
 is-near-once κs a x y d e p q = p ∙ sym q
 
-find-once : Once 5 find-kinds.ps find-kinds.r find.Post
+find-once : Once 3 find-kinds.ps find-kinds.r find.Post
 find-once κs a x y d e p q = p ∙ sym q

@@ -13,8 +13,8 @@ use Rattle.text.specs.Pick.{pick, both}
 use Rattle.text.proofs.BoolLaws.{cases, never, both-left, both-right}
 use Rattle.letters.specs.Capitals.{capitals}
 use Rattle.letters.specs.Same.{same, sameRaised}
-use Rattle.letters.proofs.CapitalLaws.{capitals-twice}
 use Rattle.letters.proofs.SameLaws.{same-true, same-raised-true}
+use Rattle.tables.specs.Place.{bytes}
 use Rattle.times.specs.Moments.{momentOf}
 use Rattle.times.specs.Window.{apart, reaches, isWithin, limitOf}
 use Rattle.times.specs.declared.Moment.{Moment}
@@ -25,13 +25,20 @@ use Rattle.chain.proofs.Walks.{First, first-start, first-on, first-end, next-le
 use Rattle.contacts.specs.Contacts.{Contact, contact, callOf, dateOf, timeOf, bandOf, modeOf}
 use Rattle.contacts.specs.Lists.{textAt, callAt, dateAt, timeAt, bandAt, modeAt, contactAt, contactsFrom, contactsOf, countOf}
 use Rattle.index.specs.Rows.{Row, low, high, joined, hasMoment, secondsIn, momentFrom, codeOf, rowOf, rowBy, rowAt}
-use Rattle.index.specs.Index.{freeOf, bucketOf}
-use Rattle.index.proofs.ChainLaws.{hdOf, nxOf}
+use Rattle.indexing.specs.Index.{freeOf, bucketOf}
+use Rattle.indexing.proofs.ChainLaws.{hdOf, nxOf}
+use Rattle.indexing.proofs.BuildLaws.{indexed-listed}
+use Rattle.contacts.proofs.ListLaws.{accepted}
 use Rattle.dedupe.specs.Keys.{inLog}
-use Rattle.dedupe.specs.Views.{cased}
-use Rattle.search.specs.Search.{near, momentIn, matches, firstFrom, firstMatch, Indexed}
-use Rattle.search.specs.Steps.{rowMoment, rowMatches}
-use Rattle.search.proofs.ReadyLaws.{placeFrom, contact-there, contacts-length, Ready, ready}
+use Rattle.dedupe.specs.Views.{keysInLog}
+use Rattle.dedupe.specs.declared.Key.{Key}
+use Rattle.wanted.specs.Wanted.{codeFor, keyAt}
+use Rattle.wanted.specs.declared.Wanted.{Wanted}
+use Rattle.wanted.proofs.WantedLaws.{place-says}
+use Rattle.search.specs.Search.{near, momentIn, matches, firstFrom, firstMatch, firstFor, placeFrom, placeOf, hit, hitOf, Indexed}
+use Rattle.search.specs.declared.Hit.{Hit}
+use Rattle.search.specs.Steps.{rowMoment, rowMatches, rowTested, entryIn}
+use Rattle.search.proofs.ReadyLaws.{contact-there, contacts-length, Ready, ready}
 
 -- ---- a record's moment
 halves : (x : ℕ) → joined (low x) (high x) ≡ x
@@ -72,16 +79,6 @@ match-code call mode band moment limit c e =
     let b = same-true band (bandOf c) (both-right (same mode (modeOf c)) _ r) in
     rw (← a, ← m, ← b) refl
 
--- ---- the code is of capitals, so it is the same for a text in capitals
-cased-capitals : (raised : Bool) (xs : List ℕ) → capitals (cased raised xs) ≡ capitals xs
-unfolding cased
-cased-capitals true xs = capitals-twice xs
-cased-capitals false xs = refl
-
-code-cased : (call mode band : List ℕ) (mr br : Bool) → codeOf call (cased mr mode) (cased br band) ≡ codeOf call mode band
-unfolding codeOf
-code-cased call mode band mr br = rw (cased-capitals mr mode, cased-capitals br band) refl
-
 -- ---- the first of the list is the first by number
 or-none : (a : ℕ) → orElse a 0 ≡ a
 or-none zero = refl
@@ -109,132 +106,165 @@ first-is P p d cs h =
     let z : 0 + length cs ≡ length cs = omega arith in
     rw z at (first-across P p d cs 0 (λ i l. let y : 0 + i ≡ i = omega arith in rw y (h i l)))
 
--- ---- the walk
-module _ (s : List ℕ) (rows : List Row) (call bare : List ℕ) (mr : Bool) (plain : List ℕ) (br : Bool) (moment : Moment) (limit : ℕ) where
+-- ---- the walk: what was found so far, and where
+module _ (s : List ℕ) (rows : List Row) (text : List ℕ) (w : Wanted) (limit : ℕ) where
+  abbrev call : List ℕ
+  call = bytes text (w .key .call)
+
   abbrev mode : List ℕ
-  mode = cased mr bare
+  mode = bytes text (w .key .mode)
 
   abbrev band : List ℕ
-  band = cased br plain
+  band = bytes text (w .key .band)
 
-  abbrev pub Hit : ℕ → Bool
-  Hit i = rowMatches s (getD rows i []) call mode band moment limit
+  abbrev pub Match : ℕ → Bool
+  Match i = rowMatches s (getD rows i []) call mode band (w .moment) limit
 
-  unfoldable pub Walking : ℕ → ℕ → ℕ → ℕ → Type 0
-  Walking n code at best = First Hit (bucketOf rows n) (code % n) n at best
+  unfoldable pub Walking : ℕ → ℕ → ℕ → Hit → Type 0
+  Walking n code at best = First Match (bucketOf rows n) (code % n) n at (best .number) × (best .place ≡ placeOf s (best .number))
 
-  module _ (n code : ℕ) (I : Indexed s n rows) (ec : code ≡ codeOf call bare plain) (hn : n ≡ 0 → ⊥) where
+  module _ (n code : ℕ) (I : Indexed s n rows) (ec : code ≡ codeFor text (w .key)) (hn : n ≡ 0 → ⊥) where
     R : Ready s n rows
     R = ready s n rows I
 
     hb : code % n < n
     hb = mod-lt code (omega (arith, hn))
 
-    hit-code : (j : ℕ) → j < n → Hit j ≡ true → col rows j 2 ≡ code
-    unfolding contactAt
+    hit-code : (j : ℕ) → j < n → Match j ≡ true → col rows j 2 ≡ code
+    unfolding contactAt codeFor
     hit-code j h e =
         row-code s (getD rows j []) (placeFrom s j 5) (R .free j h)
-        ∙ match-code call mode band moment limit (contactAt s (placeFrom s j 5)) (sym (row-matches s (getD rows j []) (placeFrom s j 5) (R .free j h) call mode band moment limit) ∙ e)
-        ∙ code-cased call bare plain mr br
+        ∙ match-code call mode band (w .moment) limit (contactAt s (placeFrom s j 5)) (sym (row-matches s (getD rows j []) (placeFrom s j 5) (R .free j h) call mode band (w .moment) limit) ∙ e)
         ∙ sym ec
 
-    sub : (j : ℕ) → j < n → Hit j ≡ true → bucketOf rows n j ≡ code % n
+    sub : (j : ℕ) → j < n → Match j ≡ true → bucketOf rows n j ≡ code % n
     sub j h e = ap (λ (x : ℕ). x % n) (hit-code j h e)
 
-    tested : (i : ℕ) (t : Bool) → i < n → t ≡ both (eqb (col rows i 2) code) (Hit i) → t ≡ Hit i
-    tested i t h e =
-        cases (Hit i)
-        (λ u. rw (e, u, eq-eqb (col rows i 2) code (hit-code i h u)))
-        (λ u. cases (eqb (col rows i 2) code) (λ v. rw (e, u, v)) (λ v. rw (e, u, v)))
+    tested : (i : ℕ) → i < n → rowTested s (getD rows i []) text w code limit ≡ Match i
+    unfolding rowTested
+    tested i h =
+        cases (Match i)
+        (λ u. rw (u, eq-eqb (col rows i 2) code (hit-code i h u)) refl)
+        (λ u. cases (eqb (col rows i 2) code) (λ v. rw (u, v) refl) (λ v. rw (u, v) refl))
 
-    pub find-start : (at : ℕ) → at ≡ col rows (code % n) 0 → Walking n code at 0
-    unfolding Walking
-    find-start at e = first-start (bucketOf rows n) n n (hdOf rows) (nxOf rows) (R .links) (code % n) hb Hit sub at e
+    pub find-start : (at : ℕ) → at ≡ col rows (code % n) 0 → Walking n code at (hit 0 0)
+    unfolding Walking placeOf
+    find-start at e = (first-start (bucketOf rows n) n n (hdOf rows) (nxOf rows) (R .links) (code % n) hb Match sub at e, refl)
 
-    pub find-on : (at best x y : ℕ) (t : Bool) → Walking n code at best → (at ≡ 0 → ⊥) → t ≡ both (eqb (col rows (at - 1) 2) code) (Hit (at - 1)) → y ≡ pick t at best → x ≡ col rows (at - 1) 1 → Walking n code x y
-    unfolding Walking
-    find-on at best x y t W na et ey ex =
-        first-on (bucketOf rows n) n n (hdOf rows) (nxOf rows) (R .links) (code % n) hb Hit sub at best x y t W na (tested (at - 1) t (omega (arith, W .within, na)) et) ey ex
+    -- the record of a contact tells where its entry stands
+    entry-there : (at : ℕ) → (at ≡ 0 → ⊥) → at ≤ n → entryIn (getD rows (at - 1) []) ≡ placeOf s at
+    unfolding placeOf entryIn rowAt rowBy rowOf callAt
+    entry-there zero na h = absurd (na refl)
+    entry-there (suc i) na h =
+        let z : suc i - 1 ≡ i = omega arith in
+        let c : getD (getD rows i []) 6 0 ≡ placeFrom s i 5 + 11 = ap (λ (r : Row). getD r 4 0) (R .free i (omega arith)) in
+        rw (z, c) (omega arith)
 
-    pub find-less : (at best x : ℕ) → Walking n code at best → (at ≡ 0 → ⊥) → x ≡ col rows (at - 1) 1 → x < at
-    unfolding Walking
-    find-less at best x W na ex = next-less (bucketOf rows n) n n (hdOf rows) (nxOf rows) (R .links) (code % n) hb Hit sub at x (W .within) (W .chain) na ex
+    module _ (at : ℕ) (best : Hit) (W : Walking n code at best) (na : at ≡ 0 → ⊥) where
+      place-on : (t : Bool) → pick t (hit at (entryIn (getD rows (at - 1) []))) best .place ≡ placeOf s (pick t (hit at (entryIn (getD rows (at - 1) []))) best .number)
+      unfolding Walking
+      place-on true = entry-there at na (W .0 .within)
+      place-on false = W .1
 
-    pub find-end : (at best : ℕ) → Walking n code at best → at ≡ 0 → best ≡ firstMatch call mode band moment limit (contactsOf s)
+      number-on : (t : Bool) → pick t (hit at (entryIn (getD rows (at - 1) []))) best .number ≡ pick t at (best .number)
+      number-on true = refl
+      number-on false = refl
+
+      pub find-on : (x : ℕ) (y : Hit) → y ≡ pick (rowTested s (getD rows (at - 1) []) text w code limit) (hit at (entryIn (getD rows (at - 1) []))) best → x ≡ getD (getD rows (at - 1) []) 1 0 → Walking n code x y
+      unfolding Walking
+      find-on x y ey ex =
+          let t : Bool = rowTested s (getD rows (at - 1) []) text w code limit in (
+            first-on (bucketOf rows n) n n (hdOf rows) (nxOf rows) (R .links) (code % n) hb Match sub at (best .number) x (y .number) t (W .0) na (tested (at - 1) (omega (arith, W .0 .within, na))) (ap (λ (h : Hit). h .number) ey ∙ number-on t) ex,
+            rw ey (place-on t),
+          )
+
+      pub find-less : (x : ℕ) → x ≡ getD (getD rows (at - 1) []) 1 0 → x < at
+      unfolding Walking
+      find-less x ex = next-less (bucketOf rows n) n n (hdOf rows) (nxOf rows) (R .links) (code % n) hb Match sub at x (W .0 .within) (W .0 .chain) na ex
+
+      pub row-in : at - 1 < length rows
+      unfolding Walking
+      row-in = omega (arith, W .0 .within, R .room, na)
+
+    first-last : (at : ℕ) (best : Hit) → Walking n code at best → at ≡ 0 → best .number ≡ firstFor text w limit s
     unfolding Walking firstMatch contactsOf
-    find-end at best W e =
+    first-last at best W e =
         let d : Contact = contact 0 0 [] [] [] [] [] in
         let l : length (contactsFrom s (countOf s) 5) ≡ n = contacts-length s (countOf s) 5 ∙ sym (R .count) in
-        first-end (bucketOf rows n) n n (hdOf rows) (nxOf rows) (R .links) (code % n) hb Hit sub at best W e
+        first-end (bucketOf rows n) n n (hdOf rows) (nxOf rows) (R .links) (code % n) hb Match sub at (best .number) (W .0) e
         ∙ sym
-        (first-is Hit (matches call mode band moment limit) d (contactsFrom s (countOf s) 5)
+        (first-is Match (matches call mode band (w .moment) limit) d (contactsFrom s (countOf s) 5)
         (λ i h. let k : i < n = omega (arith, l) in
         let g : i < countOf s = omega (arith, R .count) in
-        row-matches s (getD rows i []) (placeFrom s i 5) (R .free i k) call mode band moment limit ∙ ap (matches call mode band moment limit) (sym (contact-there s (countOf s) 5 i d g)))
-        ∙ ap (first Hit) l)
+        row-matches s (getD rows i []) (placeFrom s i 5) (R .free i k) call mode band (w .moment) limit ∙ ap (matches call mode band (w .moment) limit) (sym (contact-there s (countOf s) 5 i d g)))
+        ∙ ap (first Match) l)
 
-    pub row-in : (at best : ℕ) → Walking n code at best → (at ≡ 0 → ⊥) → at - 1 < length rows
+    pub find-end : (at : ℕ) (best : Hit) → Walking n code at best → at ≡ 0 → best ≡ hitOf s (firstFor text w limit s)
     unfolding Walking
-    row-in at best W na = omega (arith, W .within, R .room, na)
+    find-end at best W e =
+        let f : best .number ≡ firstFor text w limit s = first-last at best W e in
+        ap (λ (p : ℕ). hit (best .number) p) (W .1) ∙ ap (λ (k : ℕ). hitOf s k) f
 
   pub bucket-in : (n code : ℕ) → Indexed s n rows → (n ≡ 0 → ⊥) → code % n < length rows
   bucket-in n code I hn =
       let r : n ≤ length rows = ready s n rows I .room in
       let m : code % n < n = mod-lt code (omega (arith, hn)) in omega arith
 
-  pub find-none : (n : ℕ) → Indexed s n rows → n ≡ 0 → 0 ≡ firstMatch call mode band moment limit (contactsOf s)
-  unfolding firstMatch contactsOf contactsFrom firstFrom
+  pub find-none : (n : ℕ) → Indexed s n rows → n ≡ 0 → hit 0 0 ≡ hitOf s (firstFor text w limit s)
+  unfolding firstMatch contactsOf contactsFrom firstFrom placeOf
   find-none n I e = let z : countOf s ≡ 0 = sym (ready s n rows I .count) ∙ e in rw z refl
 
+pub short-list : (s : List ℕ) (n : ℕ) (rows : List Row) → Indexed s n rows → length s ≤ 16777216
+unfolding Indexed
+short-list s n rows q = accepted s n (q .0) (indexed-listed s (length rows) n (q .0) (q .1)) .short
+
 -- ---- the tests of one record
-module _ (s : List ℕ) (row : Row) (call bare : List ℕ) (mr : Bool) (plain : List ℕ) (br : Bool) where
-  abbrev pub Key : Bool
-  Key = inLog call (cased mr bare) (cased br plain) (textAt s (getD row 6 0)) (textAt s (getD row 10 0)) (textAt s (getD row 9 0))
+module _ (s : List ℕ) (row : Row) (text : List ℕ) (w : Wanted) (limit code : ℕ) where
+  abbrev Test : Bool
+  Test = rowTested s row text w code limit
 
-  module _ (p : ℕ) (c : List ℕ) (t : Bool) (ep : p ≡ getD row 6 0) (ec : c ≡ textAt s p) (et : t ≡ sameRaised call c) where
-    pub key-call : not t ≡ true → false ≡ Key
-    unfolding inLog
-    key-call n = let u : sameRaised call (textAt s (getD row 6 0)) ≡ false = rw (← ep, ← ec, ← et) (not-true t n) in rw u refl
+  abbrev Own : Bool
+  Own = inLog (bytes text (w .key .call)) (bytes text (w .key .mode)) (bytes text (w .key .band)) (textAt s (getD row 6 0)) (textAt s (getD row 10 0)) (textAt s (getD row 9 0))
 
-    module _ (nt : not t ≡ false) (q : ℕ) (m : List ℕ) (u : Bool) (eq : q ≡ getD row 10 0) (em : m ≡ textAt s q) (eu : u ≡ same (cased mr bare) (cased false m)) where
-      pub key-mode : not u ≡ true → false ≡ Key
-      unfolding inLog cased
-      key-mode n =
-          let a : sameRaised call (textAt s (getD row 6 0)) ≡ true = rw (← ep, ← ec, ← et) (not-false t nt) in
-          let b : same (cased mr bare) (textAt s (getD row 10 0)) ≡ false = rw (← eq, ← em, ← eu) (not-true u n) in rw (a, b) refl
+  pub match-other : (p : ℕ) → p ≡ getD row 2 0 → (p ≡ code → ⊥) → false ≡ Test
+  unfolding rowTested
+  match-other p e n = rw (ne-eqb (getD row 2 0) code (λ z. n (e ∙ z))) refl
 
-      pub key-band : not u ≡ false → (r : ℕ) (b : List ℕ) (v : Bool) → r ≡ getD row 9 0 → b ≡ textAt s r → v ≡ same (cased br plain) (cased false b) → v ≡ Key
-      unfolding inLog cased
-      key-band n r b v er eb ev =
-          let a : sameRaised call (textAt s (getD row 6 0)) ≡ true = rw (← ep, ← ec, ← et) (not-false t nt) in
-          let d : same (cased mr bare) (textAt s (getD row 10 0)) ≡ true = rw (← eq, ← em, ← eu) (not-false u n) in rw (a, d, ← er, ← eb) ev
+  no-both : (a : Bool) → both a false ≡ false
+  no-both true = refl
+  no-both false = refl
 
-  module _ (moment : Moment) (limit code : ℕ) where
-    abbrev pub Test : Bool
-    Test = both (eqb (getD row 2 0) code) (rowMatches s row call (cased mr bare) (cased br plain) moment limit)
+  yes-both : (a : Bool) → both a true ≡ a
+  yes-both true = refl
+  yes-both false = refl
 
-    pub match-other : (p : ℕ) → p ≡ getD row 2 0 → (p ≡ code → ⊥) → false ≡ Test
-    match-other p e n = rw (ne-eqb (getD row 2 0) code (λ z. n (e ∙ z))) refl
+  module _ (p : ℕ) (x : Moment) (t : Bool) (e : p ≡ getD row 2 0) (f : p ≡ code) (ex : x ≡ rowMoment row) (et : t ≡ near (w .moment) x limit) where
+    pub match-far : not t ≡ true → false ≡ Test
+    unfolding rowTested rowMatches
+    match-far n =
+        let u : near (w .moment) (rowMoment row) limit ≡ false = rw (← ex, ← et) (not-true t n) in
+        rw (eq-eqb (getD row 2 0) code (sym e ∙ f), u) (sym (no-both Own))
 
-    no-both : (a : Bool) → both a false ≡ false
-    no-both true = refl
-    no-both false = refl
+    pub match-key : not t ≡ false → (a b d : ℕ) (k : Key) (r : Bool) → a ≡ getD row 6 0 → b ≡ getD row 10 0 → d ≡ getD row 9 0 → k ≡ keyAt s a b d → r ≡ keysInLog text (w .key) s k → r ≡ Test
+    unfolding rowTested rowMatches keysInLog keyAt
+    match-key n a b d k r ea eb ed ek er =
+        let u : near (w .moment) (rowMoment row) limit ≡ true = rw (← ex, ← et) (not-false t n) in
+        let q : r ≡ Own = er ∙ rw (ek, ea, eb, ed, place-says s (getD row 6 0), place-says s (getD row 10 0), place-says s (getD row 9 0)) refl in
+        rw (eq-eqb (getD row 2 0) code (sym e ∙ f), u) (q ∙ sym (yes-both Own))
 
-    pub match-far : (p : ℕ) (x : Moment) (t : Bool) → p ≡ getD row 2 0 → p ≡ code → x ≡ rowMoment row → t ≡ near moment x limit → not t ≡ true → false ≡ Test
-    unfolding rowMatches
-    match-far p x t e f ex et n =
-        let u : near moment (rowMoment row) limit ≡ false = rw (← ex, ← et) (not-true t n) in
-        rw (eq-eqb (getD row 2 0) code (sym e ∙ f), u) (sym (no-both Key))
+pub entry-low : (row : Row) (call : ℕ) → call ≡ getD row 6 0 → call < 11 → 0 ≡ entryIn row
+unfolding entryIn
+entry-low row call e h = rw (← e) (omega arith)
 
-    yes-both : (a : Bool) → both a true ≡ a
-    yes-both true = refl
-    yes-both false = refl
+pub entry-is : (row : Row) (call : ℕ) → call ≡ getD row 6 0 → 11 ≤ call → call - 11 ≡ entryIn row
+unfolding entryIn
+entry-is row call e h = rw (← e) refl
 
-    pub match-key : (p : ℕ) (x : Moment) (t k : Bool) → p ≡ getD row 2 0 → p ≡ code → x ≡ rowMoment row → t ≡ near moment x limit → not t ≡ false → k ≡ Key → k ≡ Test
-    unfolding rowMatches
-    match-key p x t k e f ex et n ek =
-        let u : near moment (rowMoment row) limit ≡ true = rw (← ex, ← et) (not-false t n) in
-        rw (eq-eqb (getD row 2 0) code (sym e ∙ f), u) (ek ∙ sym (yes-both Key))
+pub found-it : (t u : Bool) (number e p : ℕ) (best : Hit) → t ≡ u → t ≡ true → p ≡ e → hit number p ≡ pick u (hit number e) best
+found-it t u number e p best et h ep = rw (← et, h, ep) refl
+
+pub found-before : {A : Type 0} (t u : Bool) (x y : A) → t ≡ u → t ≡ false → y ≡ pick u x y
+found-before t u x y e h = rw (← e, h) refl
 
 pub no-moment : (there x : ℕ) → there ≡ 0 → Never ≡ momentFrom there x
 unfolding momentFrom

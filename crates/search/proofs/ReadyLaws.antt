@@ -10,15 +10,10 @@ use Rattle.contacts.specs.Contacts.{Contact}
 use Rattle.contacts.specs.Lists.{contactAt, contactsFrom, countOf, endAt}
 use Rattle.contacts.proofs.ListLaws.{accepted}
 use Rattle.index.specs.Rows.{Row, rowOf, rowBy, rowAt, rowsFrom, noRow}
-use Rattle.index.specs.Index.{freeOf, bucketOf, chained, bareOf, indexOf}
-use Rattle.index.proofs.ChainLaws.{hdOf, nxOf, chained-length, chained-free, all-linked}
-use Rattle.index.proofs.BuildLaws.{length-rows, indexed-listed, indexed-fits, indexed-is}
-use Rattle.search.specs.Search.{Indexed}
-
--- where the entry of contact i stands
-abbrev pub placeFrom : List ℕ → ℕ → ℕ → ℕ
-placeFrom s zero at = at
-placeFrom s (suc i) at = placeFrom s i (endAt s at)
+use Rattle.indexing.specs.Index.{freeOf, bucketOf, chained, bareOf, indexOf}
+use Rattle.indexing.proofs.ChainLaws.{hdOf, nxOf, chained-length, chained-free, all-linked}
+use Rattle.indexing.proofs.BuildLaws.{length-rows, indexed-listed, indexed-fits, indexed-is}
+use Rattle.search.specs.Search.{placeFrom, Indexed}
 
 pub row-there : (s : List ℕ) (k at i : ℕ) → i < k → getD (rowsFrom s k at) i [] ≡ rowAt s (placeFrom s i at)
 unfolding rowsFrom

@@ -1,18 +1,21 @@
 // The search of the contact index: the first contact of the list, by its id, that a record matches. It goes down one chain of the
 // index, which holds every contact of that key, and keeps the last match that it meets, which is the first of the list.
 ghost use mathlib.Core.Path.{_≡_};
-ghost use Prim.Native.Nat.{ℕ, _+_, _*_, _≤_, _<_};
-ghost use lib.ListN.{length, getD};
-ghost use lib.Dec.{eqb};
-ghost use Rattle.text.specs.Pick.{pick, both};
-ghost use Rattle.contacts.specs.Lists.{textAt, contactsOf};
+ghost use Prim.Native.Nat.{_≤_};
+ghost use lib.ListN.{length};
+ghost use Rattle.text.specs.Pick.{pick};
 ghost use Rattle.times.specs.Window.{apart};
 ghost use Rattle.index.specs.Rows.{joined, momentFrom};
-ghost use Rattle.dedupe.specs.Keys.{inLog};
-ghost use Rattle.dedupe.specs.Views.{cased};
-ghost use Rattle.search.specs.Search.{near, firstMatch, Indexed};
-ghost use Rattle.search.specs.Steps.{rowMoment, rowMatches};
+ghost use Rattle.search.specs.Search.{near, hit, hitOf, firstFor, Indexed};
+ghost use Rattle.search.specs.Steps.{rowMoment, rowTested, entryIn};
 use times::Moment;
+use wanted::Wanted;
+
+// A contact by its number in the list, from 1, and the place of its entry; both 0 for none.
+pub struct Hit {
+    pub number: usize,
+    pub place: usize,
+}
 
 const HALF: u64 = 4_294_967_296;
 
@@ -51,106 +54,93 @@ fn moment_in(row: [u32; 14]) -> Moment
     moment_from(row[11], row[12], row[13])
 }
 
-// The contact of a record has this call, letters' case aside, and just this mode and band, each as it stands or in capitals.
-fn is_key(
-    list: &[u8],
-    row: [u32; 14],
-    call: &[u8],
-    mode: &[u8],
-    mode_raised: bool,
-    band: &[u8],
-    band_raised: bool,
-) -> bool
-    ensures { λ r. ⌜ r ≡ inLog (now (call .entry)) (cased «mode_raised» (now (mode .entry))) (cased «band_raised» (now (band .entry))) (textAt (now (list .entry)) (getD row 6 0)) (textAt (now (list .entry)) (getD row 10 0)) (textAt (now (list .entry)) (getD row 9 0)) ⌝ }
-{
-    if !letters::same_raised(call, contacts::text_at(list, index::number_in(row, 6))) {
-        return false;
-    }
-    if !dedupe::same_cased(
-        mode,
-        mode_raised,
-        contacts::text_at(list, index::number_in(row, 10)),
-        false,
-    ) {
-        return false;
-    }
-    dedupe::same_cased(
-        band,
-        band_raised,
-        contacts::text_at(list, index::number_in(row, 9)),
-        false,
-    )
-}
-
 // The same code, then the times, then the texts.
 fn is_match(
     list: &[u8],
     row: [u32; 14],
+    text: &[u8],
+    wanted: Wanted,
     code: usize,
-    call: &[u8],
-    mode: &[u8],
-    mode_raised: bool,
-    band: &[u8],
-    band_raised: bool,
-    moment: Moment,
     limit: u64,
 ) -> bool
-    ensures { λ r. ⌜ r ≡ both (eqb (getD row 2 0) code) (rowMatches (now (list .entry)) row (now (call .entry)) (cased «mode_raised» (now (mode .entry))) (cased «band_raised» (now (band .entry))) moment limit) ⌝ }
+    requires { ⌜ length (now list) ≤ 16777216 ⌝ }
+    ensures { λ r. ⌜ r ≡ rowTested (now (list .entry)) row (now (text .entry)) wanted code limit ⌝ }
 {
     if index::number_in(row, 2) != code {
         return false;
     }
+    let moment = wanted.moment;
     if !is_near(moment, moment_in(row), limit) {
         return false;
     }
-    is_key(list, row, call, mode, mode_raised, band, band_raised)
+    let own = wanted::key_at(
+        list,
+        index::number_in(row, 6),
+        index::number_in(row, 10),
+        index::number_in(row, 9),
+    );
+    dedupe::in_log(text, wanted.key, list, own)
 }
 
-fn chosen(t: bool, a: usize, b: usize) -> usize
-    ensures { λ r. ⌜ r ≡ pick t a b ⌝ }
+// Where the entry of a record's contact stands: eleven bytes before its call.
+fn entry_in(row: [u32; 14]) -> usize
+    ensures { λ r. ⌜ r ≡ entryIn row ⌝ }
 {
-    if t { a } else { b }
+    let call = index::number_in(row, 6);
+    if call < 11 {
+        return 0;
+    }
+    call - 11
 }
 
-// The number, from 1, of the first of the list's n contacts that matches; 0 where none does. Mode and band are each read as they stand
-// or in capitals.
+// The contact of a record, which has this number, if it matches; else what was found before.
+fn found(
+    list: &[u8],
+    row: [u32; 14],
+    number: usize,
+    text: &[u8],
+    wanted: Wanted,
+    code: usize,
+    limit: u64,
+    best: Hit,
+) -> Hit
+    requires { ⌜ length (now list) ≤ 16777216 ⌝ }
+    ensures { λ r. ⌜ r ≡ pick (rowTested (now (list .entry)) row (now (text .entry)) wanted code limit) (hit number (entryIn row)) best ⌝ }
+{
+    if is_match(list, row, text, wanted, code, limit) {
+        return Hit {
+            number,
+            place: entry_in(row),
+        };
+    }
+    best
+}
+
+// The first of the list's n contacts that matches what is wanted.
 pub fn find(
+    text: &[u8],
     list: &[u8],
     rows: &[[u32; 14]],
     n: usize,
-    call: &[u8],
-    mode: &[u8],
-    mode_raised: bool,
-    band: &[u8],
-    band_raised: bool,
-    moment: Moment,
+    wanted: Wanted,
     limit: u64,
-) -> usize
+) -> Hit
     requires { ⌜ Indexed (now list) n (now rows) ⌝ }
-    ensures { λ r. ⌜ r ≡ firstMatch (now (call .entry)) (cased «mode_raised» (now (mode .entry))) (cased «band_raised» (now (band .entry))) moment limit (contactsOf (now (list .entry))) ⌝ }
+    ensures { λ r. ⌜ r ≡ hitOf (now (list .entry)) (firstFor (now (text .entry)) wanted limit (now (list .entry))) ⌝ }
 {
+    let mut best = Hit {
+        number: 0,
+        place: 0,
+    };
     if n == 0 {
-        return 0;
+        return best;
     }
-    let code = index::code_of(call, mode, band) as usize;
+    let code = wanted::code_of(text, wanted) as usize;
     let b = code % n;
     let mut at = index::number_in(rows[b], 0);
-    let mut best = 0;
     while at != 0 {
         let i = at - 1;
-        let t = is_match(
-            list,
-            rows[i],
-            code,
-            call,
-            mode,
-            mode_raised,
-            band,
-            band_raised,
-            moment,
-            limit,
-        );
-        best = chosen(t, at, best);
+        best = found(list, rows[i], at, text, wanted, code, limit, best);
         at = index::number_in(rows[i], 1);
     }
     best

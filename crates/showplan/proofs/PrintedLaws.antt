@@ -20,7 +20,7 @@ use Rattle.adif.specs.Records.{records, refused, total}
 use Rattle.adif.specs.Reading.{RowsRead}
 use Rattle.contacts.specs.declared.Listed.{Listed}
 use Rattle.contacts.specs.declared.Listed.the-variants.{Marked, Refused as RefusedList}
-use Rattle.index.specs.Index.{indexedAs}
+use Rattle.indexing.specs.Index.{indexedAs}
 use Rattle.summary.specs.Summary.{summaryText}
 use Rattle.plan.specs.Fates.{fatesIn}
 use Rattle.plan.specs.Plan.{countsWith}

@@ -9,7 +9,8 @@ use lib.ListN.{length, getD, set}
 use lib.Seq.{set-out}
 use borrow.Author.Tests.{eq-eqb, ne-eqb}
 use Rattle.text.specs.Pick.{pick, both, either}
-use Rattle.index.specs.Rows as index
+use Rattle.contacts.specs.Lists.{idAt, servicesAt}
+use Rattle.index.specs.Rows.{low, high}
 use Rattle.confirmations.specs.declared.Answer.{Answer}
 use Rattle.plan.specs.Confirmed.{hasBit}
 use Rattle.entries.specs.Row.{oneIf}
@@ -23,16 +24,20 @@ counted-one n r counts h e = rw h e
 pub counted-none : (n : ℕ) (counts : Bool) → counts ≡ false → n ≡ n + oneIf counts
 counted-none n counts h = rw h (omega arith)
 
-module _ (rows : List index.Row) (fate hit : ℕ) where
-  pub target-zero : fate ≡ 5 → hit ≡ 0 → target true 0 0 0 ≡ targetOf rows fate hit
+pub target-is : (s : List ℕ) (place id services lo hi : ℕ) → id ≡ idAt s place → services ≡ getD s (place + 10) 0 → lo ≡ low id → hi ≡ high id → target true services lo hi ≡ targetIn s place
+unfolding targetIn servicesAt
+target-is s place id services lo hi ei es el eh = rw (es, el, eh, ei) refl
+
+module _ (s : List ℕ) (fate hit place : ℕ) where
+  pub target-zero : fate ≡ 5 → hit ≡ 0 → target true 0 0 0 ≡ targetOf s fate hit place
   unfolding targetOf
   target-zero f h = rw (eq-eqb fate 5 f, eq-eqb hit 0 h) refl
 
-  pub target-found : (x : Target) → fate ≡ 5 → (hit ≡ 0 → ⊥) → x ≡ targetIn (getD rows (hit - 1) []) → x ≡ targetOf rows fate hit
+  pub target-found : (x : Target) → fate ≡ 5 → (hit ≡ 0 → ⊥) → x ≡ targetIn s place → x ≡ targetOf s fate hit place
   unfolding targetOf
   target-found x f h e = rw (eq-eqb fate 5 f, ne-eqb hit 0 h) e
 
-  pub target-none : (fate ≡ 5 → ⊥) → target false 0 0 0 ≡ targetOf rows fate hit
+  pub target-none : (fate ≡ 5 → ⊥) → target false 0 0 0 ≡ targetOf s fate hit place
   unfolding targetOf
   target-none f = rw (ne-eqb fate 5 f) refl
 

@@ -1,11 +1,11 @@
 -- The answers of one record, counted one after the other.
 use mathlib.Core.Bool.{Bool, true, false, not}
 use mathlib.Core.List.{List, [], _∷_}
-use Prim.Native.Nat.{ℕ, _+_, _-_, _*_, _≤_, _<_}
+use Prim.Native.Nat.{ℕ, _+_, _*_, _≤_, _<_}
 use lib.Dec.{eqb}
-use lib.ListN.{getD, set}
 use Rattle.text.specs.Pick.{pick, both, either}
-use Rattle.index.specs.Rows as index
+use Rattle.contacts.specs.Lists.{idAt, servicesAt}
+use Rattle.index.specs.Rows.{low, high}
 use Rattle.confirmations.specs.declared.Answer.{Answer}
 use Rattle.plan.specs.Confirmed.{hasBit}
 use Rattle.entries.specs.Row.{oneIf}
@@ -16,12 +16,13 @@ use Rattle.tallies.specs.declared.Target.{Target}
 abbrev pub target : Bool → ℕ → ℕ → ℕ → Target
 target matched services low high = record { matched = matched; services = services; low = low; high = high }
 
-unfoldable pub targetIn : index.Row → Target
-targetIn r = target true (getD r 5 0) (getD r 3 0) (getD r 4 0)
+-- the contact whose entry is at that place of a list
+unfoldable pub targetIn : List ℕ → ℕ → Target
+targetIn s place = target true (servicesAt s place) (low (idAt s place)) (high (idAt s place))
 
--- of a record of this fate that found contact `hit`, counted from 1
-unfoldable pub targetOf : List index.Row → ℕ → ℕ → Target
-targetOf rows fate hit = pick (eqb fate 5) (pick (eqb hit 0) (target true 0 0 0) (targetIn (getD rows (hit - 1) []))) (target false 0 0 0)
+-- of a record of this fate that found contact `hit`, counted from 1, with its entry there
+unfoldable pub targetOf : List ℕ → ℕ → ℕ → ℕ → Target
+targetOf s fate hit place = pick (eqb fate 5) (pick (eqb hit 0) (target true 0 0 0) (targetIn s place)) (target false 0 0 0)
 
 -- ---- an answer that counts, or not: to be recorded, known already, unmatched
 module _ (to : Target) (counts : Bool) (s : ℕ) where

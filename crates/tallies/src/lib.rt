@@ -27,21 +27,24 @@ pub struct Target {
 
 const CONFIRMED: usize = 5;
 
-fn target_in(r: [u32; 14]) -> Target
-    ensures { λ x. ⌜ x ≡ targetIn r ⌝ }
+// The contact whose entry is at `place`.
+fn target_in(list: &[u8], place: usize) -> Target
+    requires { ⌜ place ≤ 16777216 ⌝ }
+    ensures { λ x. ⌜ x ≡ targetIn (now (list .entry)) place ⌝ }
 {
+    let id = contacts::id_at(list, place);
     Target {
         matched: true,
-        services: r[5],
-        low: r[3],
-        high: r[4],
+        services: text::byte(list, place + 10) as u32,
+        low: index::low_half(id),
+        high: index::high_half(id),
     }
 }
 
-// What a record of this fate confirms, which found contact `hit` of the index, counted from 1.
-pub fn target_of(index: &[[u32; 14]], fate: usize, hit: usize) -> Target
-    requires { ⌜ hit ≤ length (now index) ⌝ }
-    ensures { λ x. ⌜ x ≡ targetOf (now (index .entry)) fate hit ⌝ }
+// What a record of this fate confirms, which found contact `hit` of the list, counted from 1, whose entry is at `place`.
+pub fn target_of(list: &[u8], fate: usize, hit: usize, place: usize) -> Target
+    requires { ⌜ place ≤ 16777216 ⌝ }
+    ensures { λ x. ⌜ x ≡ targetOf (now (list .entry)) fate hit place ⌝ }
 {
     if fate == CONFIRMED {
         if hit == 0 {
@@ -52,8 +55,7 @@ pub fn target_of(index: &[[u32; 14]], fate: usize, hit: usize) -> Target
                 high: 0,
             };
         }
-        let i = hit - 1;
-        return target_in(index[i]);
+        return target_in(list, place);
     }
     Target {
         matched: false,

@@ -8,17 +8,17 @@ use Rattle.cards.proofs.confirm.Statement.{statement}
 use Rattle.cards.proofs.confirm.Tie as tie
 
 abbrev Inv-loop : tie.InvT-loop
-Inv-loop text table index list contacts rows₀ n cards₀ t₀ k₀ rows cards t k =
+Inv-loop text table list rows₀ n cards₀ t₀ k₀ rows cards t k =
     (k ≤ n) × (length rows ≡ length rows₀) × (length cards ≡ length cards₀) × (t .used ≤ length cards₀) × Counting text table list n k rows₀ rows cards₀ cards t
 
 abbrev μ-loop : tie.MeasureT-loop
-μ-loop text table index list contacts rows₀ n cards₀ t₀ k₀ rows cards t k = n - k
+μ-loop text table list rows₀ n cards₀ t₀ k₀ rows cards t k = n - k
 
 loop-holds : tie.Need-loop-holds Inv-loop μ-loop
-loop-holds c = (search needs, refl, refl, search needs, counting-none _ _ _ _ _ _ _ (c .before .before .before .pre) _ _ refl refl refl)
+loop-holds c = (search needs, refl, refl, search needs, counting-none _ _ _ _ _ (c .before .before .before .pre) _ _ refl refl refl)
 
 confirm-one-requires : tie.Need-confirm-one-requires Inv-loop μ-loop
-confirm-one-requires c κs = ready-at _ _ _ _ _ _ _ (c .before .before .before .before .before .before .before .pre) _ _ _ _ _ (c .before .before .before .loop .inv .4) (c .before .before .loop-test .taken)
+confirm-one-requires c κs = ready-at _ _ _ _ _ (c .before .before .before .before .before .before .before .pre) _ _ _ _ _ (c .before .before .before .loop .inv .4) (c .before .before .loop-test .taken)
 
 same-length : tie.Need-same-length Inv-loop μ-loop
 same-length c = search needs
@@ -28,7 +28,7 @@ same-length-2 c = search needs
 
 returns : tie.Need-returns Inv-loop μ-loop
 returns c =
-    let G = counting-more _ _ _ _ _ _ _ (c .before .before .before .before .before .before .before .before .before .before .before .before .pre) _ _ _ _ _ (c .before .before .before .before .before .before .before .before .loop .inv .4) (c .before .before .before .before .before .before .before .loop-test .taken) _ _ _ (c .before .before .before .before .«confirm-one» .ensures .0) (c .before .before .before .before .«confirm-one» .ensures .1 .0) (c .before .before .before .before .«confirm-one» .ensures .1 .1 .0) (c .before .before .before .before .«confirm-one» .ensures .1 .1 .1) (search needs) in
+    let G = counting-more _ _ _ _ _ (c .before .before .before .before .before .before .before .before .before .before .before .before .pre) _ _ _ _ _ (c .before .before .before .before .before .before .before .before .loop .inv .4) (c .before .before .before .before .before .before .before .loop-test .taken) _ _ _ (c .before .before .before .before .«confirm-one» .ensures .0) (c .before .before .before .before .«confirm-one» .ensures .1 .0) (c .before .before .before .before .«confirm-one» .ensures .1 .1 .0) (c .before .before .before .before .«confirm-one» .ensures .1 .1 .1) (search needs) in
     let l = c .if1 .taken in
     ((λ es S A. full-is _ _ _ _ _ _ _ _ _ _ G (omega arith) l es S A), ((λ es S A r. full-cards _ _ _ _ _ _ _ _ _ _ G (omega arith) l es S A r), (G .chained .kept, G .wide)))
 
@@ -39,7 +39,7 @@ loop-less : tie.Need-loop-less Inv-loop μ-loop
 loop-less c = search needs
 
 loop-again : tie.Need-loop-again Inv-loop μ-loop
-loop-again c = (search needs, search needs, search needs, search needs, counting-more _ _ _ _ _ _ _ (c .before .before .before .before .before .before .before .before .before .before .before .before .pre) _ _ _ _ _ (c .before .before .before .before .before .before .before .before .loop .inv .4) (c .before .before .before .before .before .before .before .loop-test .taken) _ _ _ (c .before .before .before .before .«confirm-one» .ensures .0) (c .before .before .before .before .«confirm-one» .ensures .1 .0) (c .before .before .before .before .«confirm-one» .ensures .1 .1 .0) (c .before .before .before .before .«confirm-one» .ensures .1 .1 .1) (search needs))
+loop-again c = (search needs, search needs, search needs, search needs, counting-more _ _ _ _ _ (c .before .before .before .before .before .before .before .before .before .before .before .before .pre) _ _ _ _ _ (c .before .before .before .before .before .before .before .before .loop .inv .4) (c .before .before .before .before .before .before .before .loop-test .taken) _ _ _ (c .before .before .before .before .«confirm-one» .ensures .0) (c .before .before .before .before .«confirm-one» .ensures .1 .0) (c .before .before .before .before .«confirm-one» .ensures .1 .1 .0) (c .before .before .before .before .«confirm-one» .ensures .1 .1 .1) (search needs))
 
 same-length-3 : tie.Need-same-length-3 Inv-loop μ-loop
 same-length-3 c = search needs

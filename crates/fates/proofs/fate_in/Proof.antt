@@ -1,4 +1,4 @@
-use Rattle.fates.proofs.StepLaws.{settled-already, repeats-another, repeats-none}
+use Rattle.fates.proofs.StepLaws.{fate-already, fate-repeated, fate-new}
 use borrow.Author.Needs.{needs}
 use Rattle.fates.proofs.fate_in.Statement.{statement}
 use Rattle.fates.proofs.fate_in.Tie as tie
@@ -14,16 +14,16 @@ first-fate-requires : tie.Need-first-fate-requires
 first-fate-requires c κs = search needs
 
 returns : tie.Need-returns
-returns c = search settled-already
+returns c = search fate-already
 
 is-repeated-requires : tie.Need-is-repeated-requires
 is-repeated-requires c κs = search needs
 
 returns-2 : tie.Need-returns-2
-returns-2 c = search repeats-another
+returns-2 c = search fate-repeated
 
 returns-3 : tie.Need-returns-3
-returns-3 c = search repeats-none
+returns-3 c = search fate-new
 
 pub fate-in-spec : {M : Type 1} → statement M
 fate-in-spec =

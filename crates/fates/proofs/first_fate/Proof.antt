@@ -10,6 +10,9 @@ number-in-requires c κs = search needs
 number-in-requires-2 : tie.Need-number-in-requires-2
 number-in-requires-2 c κs = search needs
 
+number-in-requires-3 : tie.Need-number-in-requires-3
+number-in-requires-3 c κs = search needs
+
 fate-of-requires : tie.Need-fate-of-requires
 fate-of-requires c κs = search needs
 
@@ -18,4 +21,4 @@ returns c = search first-is
 
 pub first-fate-spec : {M : Type 1} → statement M
 first-fate-spec =
-    tie.close (tie.spec number-in-requires number-in-requires-2 fate-of-requires returns)
+    tie.close (tie.spec number-in-requires number-in-requires-2 number-in-requires-3 fate-of-requires returns)

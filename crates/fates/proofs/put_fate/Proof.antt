@@ -10,14 +10,11 @@ mul-with-fate c = search needs
 slice-copy-out-with-fate : tie.Need-slice-copy-out-with-fate
 slice-copy-out-with-fate c = search needs
 
-cast-with-fate : tie.Need-cast-with-fate
-cast-with-fate c = search needs
-
 with-fate-requires : tie.Need-with-fate-requires
 with-fate-requires c κs = search needs
 
-mul-t10 : tie.Need-mul-t10
-mul-t10 c = search needs
+mul-t8 : tie.Need-mul-t8
+mul-t8 c = search needs
 
 slice-set-from-rows : tie.Need-slice-set-from-rows
 slice-set-from-rows c = search needs
@@ -34,9 +31,8 @@ put-fate-spec =
     (tie.spec
     mul-with-fate
     slice-copy-out-with-fate
-    cast-with-fate
     with-fate-requires
-    mul-t10
+    mul-t8
     slice-set-from-rows
     same-length
     returns)

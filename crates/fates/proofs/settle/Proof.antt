@@ -8,10 +8,10 @@ use Rattle.fates.proofs.settle.Tie as tie
 use Rattle.fates.proofs.settle.Reads as reads
 
 abbrev Inv-loop : tie.InvT-loop
-Inv-loop text list index contacts window download rows₀ n limit k₀ rows k = (k ≤ n) × (length rows ≡ length rows₀) × Done text list limit download n k rows₀ rows
+Inv-loop text window download rows₀ n limit k₀ rows k = (k ≤ n) × (length rows ≡ length rows₀) × Done text limit download n k rows₀ rows
 
 abbrev μ-loop : tie.MeasureT-loop
-μ-loop text list index contacts window download rows₀ n limit k₀ rows k = n - k
+μ-loop text window download rows₀ n limit k₀ rows k = n - k
 
 limit-of-requires : tie.Need-limit-of-requires Inv-loop μ-loop
 limit-of-requires c κs = search needs
@@ -20,7 +20,7 @@ loop-holds : tie.Need-loop-holds Inv-loop μ-loop
 loop-holds c = (search needs, refl, search done-none)
 
 settle-one-requires : tie.Need-settle-one-requires Inv-loop μ-loop
-settle-one-requires c κs = (search needs, c .before .before .loop .inv .2 .chained, c .before .loop-test .taken, search needs)
+settle-one-requires c κs = (c .before .before .loop .inv .2 .chained, c .before .loop-test .taken, search needs)
 
 add-k : tie.Need-add-k Inv-loop μ-loop
 add-k c = search needs

@@ -1,23 +1,14 @@
-use Rattle.fates.proofs.StepLaws.{hit-few, bucket-in, step-linked, step-passed}
+use Rattle.fates.proofs.StepLaws.{bucket-in, step-linked, step-passed}
 use borrow.Author.Needs.{needs}
 use Rattle.fates.proofs.settle_one.Statement.{statement}
 use Rattle.fates.proofs.settle_one.Tie as tie
 use Rattle.fates.proofs.settle_one.Reads as reads
 
-mul-hit-in : tie.Need-mul-hit-in
-mul-hit-in c = search needs
-
-slice-copy-out-hit-in : tie.Need-slice-copy-out-hit-in
-slice-copy-out-hit-in c = search needs
-
-hit-in-requires : tie.Need-hit-in-requires
-hit-in-requires c κs = search needs
-
 fate-in-requires : tie.Need-fate-in-requires
 fate-in-requires c κs = search needs
 
 put-fate-requires : tie.Need-put-fate-requires
-put-fate-requires c κs = (search needs, search hit-few)
+put-fate-requires c κs = search needs
 
 mul-number-in : tie.Need-mul-number-in
 mul-number-in c = search needs
@@ -50,9 +41,6 @@ pub settle-one-spec : {M : Type 1} → statement M
 settle-one-spec =
     tie.close
     (tie.spec
-    mul-hit-in
-    slice-copy-out-hit-in
-    hit-in-requires
     fate-in-requires
     put-fate-requires
     mul-number-in

@@ -2,18 +2,18 @@ use Prim.Native.Nat.{_≤_, _-_}
 use mathlib.Core.Path.{_≡_, refl}
 use lib.ListN.{length}
 use borrow.Author.Needs.{needs}
-use Rattle.lookup.proofs.LookLaws.{Clearing, clear-start, clear-on, clear-end}
+use Rattle.chain.proofs.Fronts.{Wiping, wipe-start, wipe-on, wipe-end}
 use Rattle.lookup.proofs.clear.Statement.{statement}
 use Rattle.lookup.proofs.clear.Tie as tie
 
 abbrev Inv-loop : tie.InvT-loop
-Inv-loop found₀ i₀ found i = (i ≤ length found₀) × (length found ≡ length found₀) × Clearing found₀ found i
+Inv-loop found₀ i₀ found i = (i ≤ length found₀) × (length found ≡ length found₀) × Wiping 0 found₀ found i
 
 abbrev μ-loop : tie.MeasureT-loop
 μ-loop found₀ i₀ found i = length found₀ - i
 
 loop-holds : tie.Need-loop-holds Inv-loop μ-loop
-loop-holds c = (search needs, search needs, search (needs, clear-start))
+loop-holds c = (search needs, search needs, search (needs, wipe-start))
 
 mul-found : tie.Need-mul-found Inv-loop μ-loop
 mul-found c = search needs
@@ -28,13 +28,13 @@ loop-less : tie.Need-loop-less Inv-loop μ-loop
 loop-less c = search needs
 
 loop-again : tie.Need-loop-again Inv-loop μ-loop
-loop-again c = (search needs, search needs, search (needs, clear-on))
+loop-again c = (search needs, search needs, search (needs, wipe-on))
 
 same-length : tie.Need-same-length Inv-loop μ-loop
 same-length c = search needs
 
 returns : tie.Need-returns Inv-loop μ-loop
-returns c = search (needs, clear-end)
+returns c = search (needs, wipe-end)
 
 pub clear-spec : {M : Type 1} → statement M
 clear-spec =

@@ -1,15 +1,18 @@
-use mathlib.Core.Path.{ap, _∙_}
+use lib.ListN.{length}
+use mathlib.Core.Path.{refl, ap, _∙_}
 use mir.Syntax.{w64}
 use mir.ValLaws.{toZ-ofZ}
 use Rattle.times.specs.Window.{limitOf}
-use Rattle.lookup.proofs.LookLaws.{still-zero}
-use Rattle.lookup.proofs.LookLaws.{up-refused, up-refused-found, up-indexed, done-answer, done-found}
+use Rattle.lookup.proofs.LookLaws.{up-room, up-asks, up-answer, up-found}
 use borrow.Author.Needs.{needs}
 use Rattle.lookup.proofs.look_up.Statement.{statement}
 use Rattle.lookup.proofs.look_up.Tie as tie
-use Rattle.index.proofs.build.Reads as build-reads
+use Rattle.lookup.proofs.look_up.Reads as reads
+use Rattle.indexing.proofs.build.Reads as build-reads
+use Rattle.indexing.proofs.count_in.Reads as count-in-reads
+use Rattle.lookup.proofs.asked_of.Reads as asked-of-reads
 use Rattle.lookup.proofs.clear.Reads as clear-reads
-use Rattle.lookup.proofs.look_in.Reads as look-in-reads
+use Rattle.lookup.proofs.match_each.Reads as match-each-reads
 use Rattle.times.proofs.window.limit_of.Reads as limit-of-reads
 
 clear-requires : tie.Need-clear-requires
@@ -21,14 +24,17 @@ limit-of-requires c κs = search needs
 build-requires : tie.Need-build-requires
 build-requires c κs = search needs
 
-enum-known-built : tie.Need-enum-known-built
-enum-known-built c = search needs
+asked-of-requires : tie.Need-asked-of-requires
+asked-of-requires c κs = search needs
 
-enum-known-built-2 : tie.Need-enum-known-built-2
-enum-known-built-2 c = search needs
+count-in-requires : tie.Need-count-in-requires
+count-in-requires c κs = search needs
 
-look-in-requires : tie.Need-look-in-requires
-look-in-requires c κs = (search (needs, up-indexed), search (needs, still-zero))
+count-in-requires-2 : tie.Need-count-in-requires-2
+count-in-requires-2 c κs = search needs
+
+match-each-requires : tie.Need-match-each-requires
+match-each-requires c κs = (up-room _ _ 0 _ (length (c .before .before .before .before .before .before .before .before .before .before .before .before .before .before .before .before .args .found .now)) _ (c .before .before .before .before .before .before .build .ensures .1) (search needs) _ (c .before .before .before .before .before .before .before .before .before .before .before .clear .ensures) _ _ _ (search needs) (c .before .before .before .before .before .before .build .ensures .0) (c .before .before .before .before .asked-of .ensures) _ (c .before .count-in2 .ensures), up-asks _ _ 0 _ (length (c .before .before .before .before .before .before .before .before .before .before .before .before .before .before .before .before .args .found .now)) _ (c .before .before .before .before .before .before .build .ensures .1) (search needs) _ (c .before .before .before .before .before .before .before .before .before .before .before .clear .ensures) _ _ _ (search needs) (c .before .before .before .before .before .before .build .ensures .0) (c .before .before .before .before .asked-of .ensures) _ _ (c .before .before .count-in .ensures) (c .before .count-in2 .ensures))
 
 same-length : tie.Need-same-length
 same-length c = search needs
@@ -37,16 +43,7 @@ same-length-2 : tie.Need-same-length-2
 same-length-2 c = search needs
 
 returns : tie.Need-returns
-returns c = (search (needs, up-refused), (search needs, search (needs, up-refused-found)))
-
-same-length-3 : tie.Need-same-length-3
-same-length-3 c = search needs
-
-same-length-4 : tie.Need-same-length-4
-same-length-4 c = search needs
-
-returns-2 : tie.Need-returns-2
-returns-2 c = (search (needs, done-answer), (search needs, done-found _ _ _ _ _ (c .before .before .before .before .before .before .before .before .before .build .ensures .0) _ _ (c .before .before .before .before .before .before .built2 .given .1) (c .before .before .before .before .before .before .before .before .before .before .before .before .before .before .before .before .before .before .before .args .found .now) _ (c .before .before .before .before .before .before .before .before .before .before .before .before .before .before .clear .ensures) _ _ (c .before .before .look-in .ensures) _ ((c .before .before .before .before .before .before .before .before .before .before .before .limit-of .ensures) ∙ ap limitOf (toZ-ofZ w64 _ (c .before .before .before .before .before .before .before .before .before .before .before .before .before .before .before .before .before .before .before .fits .window)))))
+returns c = (up-answer _ _ 0 _ _ _ (c .before .before .before .before .before .before .before .before .before .build .ensures .1) (search needs) _ (c .before .before .before .before .before .before .before .before .before .before .before .before .before .before .clear .ensures) _ _ _ (search needs) (c .before .before .before .before .before .before .before .before .before .build .ensures .0) (c .before .before .before .before .before .before .before .asked-of .ensures), (search needs, up-found _ _ _ _ _ _ (c .before .before .before .before .before .before .before .before .before .build .ensures .1) (search needs) _ (c .before .before .before .before .before .before .before .before .before .before .before .before .before .before .clear .ensures) _ _ _ (search needs) (c .before .before .before .before .before .before .before .before .before .build .ensures .0) (c .before .before .before .before .before .before .before .asked-of .ensures) _ _ (c .before .before .before .before .count-in2 .ensures) (c .before .before .match-each .ensures) _ ((c .before .before .before .before .before .before .before .before .before .before .before .limit-of .ensures) ∙ ap limitOf (toZ-ofZ w64 _ (c .before .before .before .before .before .before .before .before .before .before .before .before .before .before .before .before .before .before .before .fits .window)))))
 
 pub look-up-spec : {M : Type 1} → statement M
 look-up-spec =
@@ -55,12 +52,10 @@ look-up-spec =
     clear-requires
     limit-of-requires
     build-requires
-    enum-known-built
-    enum-known-built-2
-    look-in-requires
+    asked-of-requires
+    count-in-requires
+    count-in-requires-2
+    match-each-requires
     same-length
     same-length-2
-    returns
-    same-length-3
-    same-length-4
-    returns-2)
+    returns)

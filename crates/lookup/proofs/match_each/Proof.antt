@@ -2,23 +2,28 @@ use Prim.Native.Nat.{_≤_, _-_}
 use mathlib.Core.Path.{_≡_, refl}
 use lib.ListN.{length}
 use borrow.Author.Needs.{needs}
-use Rattle.lookup.proofs.LookLaws.{Matching, match-start, match-inside, match-on, match-end}
+use Rattle.lookup.proofs.LookLaws.{Matching, match-start, match-indexed, match-short, match-place, match-on, match-end}
 use Rattle.lookup.proofs.match_each.Statement.{statement}
 use Rattle.lookup.proofs.match_each.Tie as tie
+use Rattle.lookup.proofs.match_each.Reads as reads
 use Rattle.contacts.proofs.end_at.Reads as end-at-reads
-use Rattle.lookup.proofs.match_at.Reads as match-at-reads
+use Rattle.search.proofs.find.Reads as find-reads
+use Rattle.wanted.proofs.wanted_at.Reads as wanted-at-reads
 
 abbrev Inv-loop : tie.InvT-loop
-Inv-loop list rows n other k limit found₀ at₀ i₀ found at i = (i ≤ k) × (at ≤ length other) × (length found ≡ length found₀) × Matching list limit other k i at found₀ found
+Inv-loop list rows n other k limit found₀ at₀ i₀ found at i = (i ≤ k) × (length found ≡ length found₀) × Matching list limit other k i at found₀ found
 
 abbrev μ-loop : tie.MeasureT-loop
 μ-loop list rows n other k limit found₀ at₀ i₀ found at i = k - i
 
 loop-holds : tie.Need-loop-holds Inv-loop μ-loop
-loop-holds c = (search needs, search needs, search needs, search (needs, match-start))
+loop-holds c = (search needs, search needs, search (needs, match-start))
 
-match-at-requires : tie.Need-match-at-requires Inv-loop μ-loop
-match-at-requires c κs = search needs
+wanted-at-requires : tie.Need-wanted-at-requires Inv-loop μ-loop
+wanted-at-requires c κs = (search (needs, match-short), search (needs, match-place))
+
+find-requires : tie.Need-find-requires Inv-loop μ-loop
+find-requires c κs = search (needs, match-indexed)
 
 mul-found : tie.Need-mul-found Inv-loop μ-loop
 mul-found c = search needs
@@ -27,7 +32,7 @@ slice-write-found : tie.Need-slice-write-found Inv-loop μ-loop
 slice-write-found c = search needs
 
 end-at-requires : tie.Need-end-at-requires Inv-loop μ-loop
-end-at-requires c κs = search needs
+end-at-requires c κs = search (needs, match-place)
 
 add-i : tie.Need-add-i Inv-loop μ-loop
 add-i c = search needs
@@ -36,7 +41,7 @@ loop-less : tie.Need-loop-less Inv-loop μ-loop
 loop-less c = search needs
 
 loop-again : tie.Need-loop-again Inv-loop μ-loop
-loop-again c = (search needs, search (needs, match-inside), search needs, search (needs, match-on))
+loop-again c = (search needs, search needs, search (needs, match-on))
 
 same-length : tie.Need-same-length Inv-loop μ-loop
 same-length c = search needs
@@ -51,7 +56,8 @@ match-each-spec =
     Inv-loop
     μ-loop
     loop-holds
-    match-at-requires
+    wanted-at-requires
+    find-requires
     mul-found
     slice-write-found
     end-at-requires

@@ -2,7 +2,7 @@ use Rattle.ox_contacts.proofs.AnswerLaws.{listed-answer}
 use borrow.Author.Needs.{needs}
 use Rattle.ox_contacts.proofs.ox_contacts_index.Statement.{statement}
 use Rattle.ox_contacts.proofs.ox_contacts_index.Tie as tie
-use Rattle.index.proofs.build.Reads as build-reads
+use Rattle.indexing.proofs.build.Reads as build-reads
 use Rattle.ox_contacts.proofs.of_listed.Reads as of-listed-reads
 
 build-requires : tie.Need-build-requires

@@ -1,17 +1,17 @@
-use Rattle.search.proofs.FindLaws.{Walking, find-none, find-start, find-on, find-less, find-end, row-in, bucket-in}
+use Rattle.search.proofs.FindLaws.{Walking, find-none, find-start, find-on, find-less, find-end, row-in, bucket-in, short-list}
 use borrow.Author.Needs.{needs}
 use Rattle.search.proofs.find.Statement.{statement}
 use Rattle.search.proofs.find.Tie as tie
-use Rattle.index.proofs.code_of.Reads as code-of-reads
+use Rattle.search.proofs.find.Reads as reads
 use Rattle.index.proofs.number_in.Reads as number-in-reads
-use Rattle.search.proofs.chosen.Reads as chosen-reads
-use Rattle.search.proofs.is_match.Reads as is-match-reads
+use Rattle.search.proofs.found.Reads as found-reads
+use Rattle.wanted.proofs.code_of.Reads as code-of-reads
 
 abbrev Inv-loop : tie.InvT-loop
-Inv-loop list rows n call mode mr band br moment limit code b at₀ best₀ at best = Walking list rows call mode mr band br moment limit n code at best
+Inv-loop text list rows n wanted limit best₀ code b at₀ best at = Walking list rows text wanted limit n code at best
 
 abbrev μ-loop : tie.MeasureT-loop
-μ-loop list rows n call mode mr band br moment limit code b at₀ best₀ at best = at
+μ-loop text list rows n wanted limit best₀ code b at₀ best at = at
 
 returns : tie.Need-returns Inv-loop μ-loop
 returns c = search (needs, find-none)
@@ -40,17 +40,14 @@ loop-holds c = search (needs, find-start)
 sub-i : tie.Need-sub-i Inv-loop μ-loop
 sub-i c = search needs
 
-mul-is-match : tie.Need-mul-is-match Inv-loop μ-loop
-mul-is-match c = search (needs, row-in)
+mul-found : tie.Need-mul-found Inv-loop μ-loop
+mul-found c = search (needs, row-in)
 
-shared-slice-copy-out-is-match : tie.Need-shared-slice-copy-out-is-match Inv-loop μ-loop
-shared-slice-copy-out-is-match c = search (needs, row-in)
+shared-slice-copy-out-found : tie.Need-shared-slice-copy-out-found Inv-loop μ-loop
+shared-slice-copy-out-found c = search (needs, row-in)
 
-is-match-requires : tie.Need-is-match-requires Inv-loop μ-loop
-is-match-requires c κs = search needs
-
-chosen-requires : tie.Need-chosen-requires Inv-loop μ-loop
-chosen-requires c κs = search needs
+found-requires : tie.Need-found-requires Inv-loop μ-loop
+found-requires c κs = search (needs, short-list)
 
 mul-number-in-2 : tie.Need-mul-number-in-2 Inv-loop μ-loop
 mul-number-in-2 c = search (needs, row-in)
@@ -85,10 +82,9 @@ find-spec =
     number-in-requires
     loop-holds
     sub-i
-    mul-is-match
-    shared-slice-copy-out-is-match
-    is-match-requires
-    chosen-requires
+    mul-found
+    shared-slice-copy-out-found
+    found-requires
     mul-number-in-2
     shared-slice-copy-out-number-in-2
     number-in-requires-2

@@ -1,0 +1,75 @@
+// What each record of a plan finds in the log: the number of the contact, and the place of its entry in the list, from which its id and
+// its services are read. This is the one phase of a plan that has the contact index.
+ghost use mathlib.Core.Path.{_≡_};
+ghost use Prim.Native.Nat.{_≤_, _<_};
+ghost use lib.ListN.{length};
+ghost use lib.Seq.{sets};
+ghost use Rattle.logged.specs.Logged.{wantedIn, withHit, loggedRows, Searchable};
+use search::Hit;
+use wanted::Wanted;
+
+fn wanted_in(row: [u32; 28]) -> Wanted
+    ensures { λ r. ⌜ r ≡ wantedIn row ⌝ }
+{
+    let key = infile::key_in(row);
+    let moment = infile::moment_in(row);
+    Wanted { key, moment }
+}
+
+fn with_hit(r: [u32; 28], hit: Hit) -> [u32; 28]
+    requires { ⌜ (hit .number < 4294967296) × (hit .place < 4294967296) ⌝ }
+    ensures { λ x. ⌜ x ≡ withHit r (hit .number) (hit .place) ⌝ }
+{
+    [
+        r[0],
+        r[1],
+        r[2],
+        r[3],
+        r[4],
+        r[5],
+        r[6],
+        r[7],
+        r[8],
+        r[9],
+        r[10],
+        r[11],
+        r[12],
+        r[13],
+        r[14],
+        r[15],
+        r[16],
+        r[17],
+        r[18],
+        r[19],
+        r[20],
+        r[21],
+        hit.number as u32,
+        r[23],
+        r[24],
+        r[25],
+        r[26],
+        hit.place as u32,
+    ]
+}
+
+// The first n records are looked up in the log.
+pub fn find_each(
+    text: &[u8],
+    list: &[u8],
+    index: &[[u32; 14]],
+    contacts: usize,
+    limit: u64,
+    rows: &mut [[u32; 28]],
+    n: usize,
+)
+    requires { ⌜ (n ≤ length (now rows)) × Searchable (now list) contacts (now index) n ⌝ }
+    ensures { λ _. ⌜ now (rows .exit) ≡ sets (now (rows .entry)) 0 (loggedRows (now (text .entry)) (now (list .entry)) limit (now (rows .entry)) n) ⌝ }
+{
+    let mut k = 0;
+    while k < n {
+        let wanted = wanted_in(rows[k]);
+        let hit = search::find(text, list, index, contacts, wanted, limit);
+        rows[k] = with_hit(rows[k], hit);
+        k += 1;
+    }
+}
