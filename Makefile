@@ -1,5 +1,5 @@
 # What one runs here. Each target works from a fresh clone; host/host.sh fetches what it lacks.
-.PHONY: test library compare bench record preview
+.PHONY: test library compare bench record preview ox
 
 # the gate: ends in `N passed, 0 failed`
 test:
@@ -24,3 +24,8 @@ record:
 # what importing FILE would do
 preview:
 	@host/preview.sh "$(FILE)"
+
+# the tool for the log desk
+ox:
+	@host/host.sh ox
+	@echo 'Run it: target/ox preview samples/club.adi'

@@ -1,6 +1,6 @@
 #!/bin/sh
-# The gate: the layout of the sources, every proof, must-fail edit and program, the samples, the interfaces for C and Rust, and the library
-# beside Rust's std and the original. Each part runs whatever the others said. The last line is `N passed, M failed`.
+# The gate: the layout of the sources, every proof, must-fail edit and program, the samples, the interfaces for C and Rust, the tool `ox`,
+# and the library beside Rust's std and the original. Each part runs whatever the others said. The last line is `N passed, M failed`.
 set -u
 # a prover waits where others of its level or batch still run: one more than there are processors keeps all of them busy
 export RT_JOBS="${RT_JOBS:-$(($(nproc) + 1))}"
@@ -56,6 +56,10 @@ count $(told 'interface: \([0-9]*\) passed, \([0-9]*\) failed')
 part importer host/host.sh importer
 # shellcheck disable=SC2046
 count $(told 'importer: \([0-9]*\) passed, \([0-9]*\) failed')
+
+part ox host/host.sh ox-test
+# shellcheck disable=SC2046
+count $(told 'ox: \([0-9]*\) passed, \([0-9]*\) failed')
 
 part doc host/host.sh doc
 # shellcheck disable=SC2046

@@ -4,6 +4,8 @@
 #   host/host.sh compare [full]   the library's answers against std's and the original's, group by group
 #   host/host.sh doc              the examples in the documentation of the Rust crate, and the README's
 #   host/host.sh importer         the C program over include/oxbreathe.h, its own test, the header's examples
+#   host/host.sh ox               the tool for the log desk, target/ox
+#   host/host.sh ox-test          the tool on the samples against stored outputs, and on what it must refuse
 #   host/host.sh bench            instructions of both between marks, one table; on x86-64 times as well
 #   host/host.sh stack            the stack that each exported call takes
 #   host/host.sh record [DIR]     the answers of std and the original as vectors, into DIR (else where they are kept)
@@ -317,6 +319,24 @@ importer() {
     linked cpp -std=c++11 "$host/importer/header.cc"
     "$host/importer/test.sh" "$to" $run
 }
+# The tool for the log desk, and a program that makes its largest files.
+ox() {
+    library
+    alone for_rust
+    to=$out/ox
+    mkdir -p "$to"
+    crate oxbreathe 2024 "$host/oxbreathe/lib.rs" --crate-type rlib -L "native=$archive"
+    crate ox 2024 "$host/ox/main.rs" --extern oxbreathe="$to/liboxbreathe.rlib"
+    mkdir -p "$root/target"
+    printf '#!/bin/sh\nexec %s"%s" "$@"\n' "${run:+\"$run\" }" "$to/ox" >"$root/target/ox"
+    chmod +x "$root/target/ox"
+}
+ox_test() {
+    ox
+    crate largest 2024 "$host/ox/largest.rs" --extern oxbreathe="$to/liboxbreathe.rlib"
+    # shellcheck disable=SC2086
+    "$host/ox/test.sh" "$to" $run
+}
 # linked NAME OPTION.. FILE..: a program of C, in $to
 # shellcheck disable=SC2086
 linked() {
@@ -341,6 +361,8 @@ library)
     ;;
 doc) doc ;;
 importer) importer ;;
+ox) ox ;;
+ox-test) ox_test ;;
 bench) bench ;;
 stack) stack ;;
 record)
@@ -348,7 +370,7 @@ record)
     compare record "${2:-$vectors}" "${2:-$samples}"
     ;;
 *)
-    sed -n '3,9s/^#   //p' "$0"
+    sed -n '3,11s/^#   //p' "$0"
     exit 2
     ;;
 esac
