@@ -244,16 +244,22 @@ library() {
     [ -n "${OXBREATHE_LIB:-}" ] || staticlib
     [ -f "$archive/liboxbreathe.a" ] || die "no $archive/liboxbreathe.a"
 }
+# wrapper NAME OPTION..: the Rust crate over it, for the program NAME and in its folder, $to
+wrapper() {
+    library
+    alone for_rust
+    to=$out/$1
+    mkdir -p "$to"
+    shift
+    crate oxbreathe 2024 "$host/oxbreathe/lib.rs" --crate-type rlib -L "native=$archive" "$@"
+}
 # build NAME OPTION..: the program NAME; the options are for the original and for the crate
 build() {
     program=$1
     shift
-    library
-    alone for_rust
-    mkdir -p "$out/$program"
+    wrapper "$program" "$@"
     alone original "$@"
     to=$out/$program
-    crate oxbreathe 2024 "$host/oxbreathe/lib.rs" --crate-type rlib -L "native=$archive" "$@"
     # shellcheck disable=SC2086
     crate "$program" 2024 "$host/$program/main.rs" --check-cfg 'cfg(original)' $with_original \
         --extern oxbreathe="$to/liboxbreathe.rlib"
@@ -293,11 +299,7 @@ stack() {
 }
 # The examples in the crate's documentation, and those of Rust in the README.
 doc() {
-    library
-    alone for_rust
-    to=$out/doc
-    mkdir -p "$to"
-    crate oxbreathe 2024 "$host/oxbreathe/lib.rs" --crate-type rlib -L "native=$archive"
+    wrapper doc
     awk '/^```rust$/, /^```$/' "$root/README.md" >"$to/README.md"
     for documented in "$host/oxbreathe/lib.rs" "$to/README.md"; do
         # shellcheck disable=SC2086
@@ -321,11 +323,7 @@ importer() {
 }
 # The tool for the log desk, and a program that makes its largest files.
 ox() {
-    library
-    alone for_rust
-    to=$out/ox
-    mkdir -p "$to"
-    crate oxbreathe 2024 "$host/oxbreathe/lib.rs" --crate-type rlib -L "native=$archive"
+    wrapper ox
     crate ox 2024 "$host/ox/main.rs" --extern oxbreathe="$to/liboxbreathe.rlib"
     mkdir -p "$root/target"
     printf '#!/bin/sh\nexec %s"%s" "$@"\n' "${run:+\"$run\" }" "$to/ox" >"$root/target/ox"

@@ -7,23 +7,13 @@ cd "$here/../.." || exit 1
 programs=$1
 shift
 run=$*
-passed=0 failed=0
+tested=importer
+. "$here/../counted.sh"
 
 program() {
     name=$1
     shift
     $run "$programs/$name" "$@"
-}
-# counted WHAT COMMAND..: one that passes, or fails
-counted() {
-    what=$1
-    shift
-    if "$@"; then
-        passed=$((passed + 1))
-    else
-        failed=$((failed + 1))
-        echo "importer: $what failed"
-    fi
 }
 # checks NAME ARGUMENT..: those that a program makes and counts itself
 checks() {

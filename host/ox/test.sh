@@ -11,20 +11,10 @@ work=$(mktemp -d)
 trap 'rm -rf "$work"' EXIT
 ln -s "$root/samples" "$work/samples"
 cd "$work" || exit 1
-passed=0 failed=0
+tested=ox
+. "$here/../counted.sh"
 
 ox() { $run "$programs/ox" "$@"; }
-# counted WHAT COMMAND..: one that passes, or fails
-counted() {
-    what=$1
-    shift
-    if "$@"; then
-        passed=$((passed + 1))
-    else
-        failed=$((failed + 1))
-        echo "ox: $what failed"
-    fi
-}
 
 # ---- sessions
 
