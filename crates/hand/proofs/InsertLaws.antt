@@ -11,13 +11,14 @@ use lib.ListN.{length, getD, take, drop, set, length-take, length-drop, length-a
 use lib.Seq.{getD-take, take-suc-set, drop-cons, drop-set-lt, append-snoc, take-set-lt, length-take-le, take-take, take-suc, set-split}
 use borrow.Author.Tests.{le-leb, lt-leb, leb-true}
 use Rattle.text.specs.Pick.{pick}
-use Rattle.letters.specs.Capitals.{capitals}
+use Rattle.letters.specs.Capitals.{raised, capitals}
 use Rattle.letters.specs.Order.{order, orderRaised}
 use Rattle.letters.specs.declared.Order.{Order}
 use Rattle.letters.specs.declared.Order.the-variants.{Less, Equal, Greater}
 use Rattle.adif.specs.Records.{placed, put}
 use Rattle.adif.specs.Reading.{Row, part, rowName}
 use Rattle.hand.specs.Rows.{putIn, putFor, Placed, Inserted}
+use Rattle.hand.proofs.PartLaws.{first-decides}
 use Rattle.hand.specs.declared.Kept.{Kept}
 use Rattle.hand.specs.declared.Kept.the-variants.{Used, Full}
 use Rattle.hand.specs.declared.Spot.{Spot}
@@ -95,6 +96,13 @@ module _ (text : List ℕ) (rows : List Row) (used i : ℕ) (o : Order) (n : Lis
   pub found-above : o ≡ Greater → Passed text (capitals n) (take used rows) (i + 1)
   unfolding Passed
   found-above a r er = inv r er ∙ met-above text (take used rows) i inside r (order-is r er ∙ a)
+
+-- the test of the first bytes at row i, which is left where the name's is above
+pub found-later : (text : List ℕ) (rows : List Row) (used i : ℕ) (n : List ℕ) (f b : ℕ) → i < used → used ≤ length rows
+    → f ≡ raised (getD n 0 0) → b ≡ raised (getD text (getD (getD rows i []) 0 0) 0) → b < f
+    → Passed text (capitals n) (take used rows) i → Passed text (capitals n) (take used rows) (i + 1)
+found-later text rows used i n f b iu ul ef eb h inv =
+    found-above text rows used i Greater n iu ul (first-decides text n (getD (getD rows i []) 0 0) (getD (getD rows i []) 1 0) (rw (← ef, ← eb) h)) inv refl
 
 pub found-end : (text : List ℕ) (rows : List Row) (used i : ℕ) (n : List ℕ) → used ≤ length rows → i ≤ used → used ≤ i → Passed text (capitals n) (take used rows) i
     → Placed text (take used rows) (capitals n) (spot i false)

@@ -2,9 +2,9 @@
 // in the text, and the value's. When the record is closed its rows move to the lent table, of five numbers a row.
 ghost use mathlib.Core.Path.{_≡_};
 ghost use Prim.Native.Nat.{_+_, _*_, _<_, _≤_};
-ghost use lib.ListN.{length, take};
+ghost use lib.ListN.{length, getD, take};
 ghost use lib.Seq.{sets};
-ghost use Rattle.letters.specs.Capitals.{capitals};
+ghost use Rattle.letters.specs.Capitals.{raised, capitals};
 ghost use Rattle.letters.specs.Order.{orderRaised};
 ghost use Rattle.adif.specs.Records.{put};
 ghost use Rattle.adif.specs.Reading.{part, rowName};
@@ -32,19 +32,32 @@ fn order_with(text: &[u8], name: &[u8], at: u32, n: u32) -> Order
     letters::order_raised(name, part(text, at as usize, n as usize))
 }
 
+// The byte at `at` in capitals, or 0 past the end.
+fn raised_at(s: &[u8], at: u32) -> u8
+    ensures { λ r. ⌜ r ≡ raised (getD (now (s .entry)) at 0) ⌝ }
+{
+    letters::raise(text::byte(s, at as usize))
+}
+
 struct Spot {
     pub at: usize,
     pub same: bool,
 }
 
-// Where a row of that name goes: its index, and whether the row there has the same name.
+// Where a row of that name goes: its index, and whether the row there has the same name. Most names differ in their first letter, which
+// tells before any name is cut out of the text.
 fn spot_of(text: &[u8], rows: &[[u32; 4]], used: usize, name: &[u8]) -> Spot
     requires { ⌜ used ≤ length (now rows) ⌝ }
     ensures { λ p. ⌜ Placed (now (text .entry)) (take used (now (rows .entry))) (capitals (now (name .entry))) p ⌝ }
 {
+    let first = raised_at(name, 0);
     let mut i = 0;
     while i < used {
         let x = rows[i];
+        if raised_at(text, x[0]) < first {
+            i += 1;
+            continue;
+        }
         let o = order_with(text, name, x[0], x[1]);
         match o {
             Order::Less => {

@@ -130,9 +130,6 @@ module _ (a b : List ℕ) (i : ℕ) (r : Order) (q : orderRaised (drop i a) (dro
       unfolding orderRaised
       at-level m n = rw add-one (sym (first-same x y (capitals (drop (suc i) a)) (capitals (drop (suc i) b)) (omega arith)) ∙ cut)
 
-    pub at-same : i < length b → getD a i 0 ≡ getD b i 0 → orderRaised (drop (i + 1) a) (drop (i + 1) b) ≡ r
-    at-same l e = at-level (raised (getD a i 0)) (raised (getD b i 0)) l refl refl (omega (arith, ap raised e)) (omega (arith, ap raised e))
-
   pub first-ended : length a ≤ i → i < length b → Less ≡ r
   unfolding orderRaised
   first-ended h l = simp (drop-of-length-le a h, drop-cons b i 0 l) at q

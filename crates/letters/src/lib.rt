@@ -64,10 +64,6 @@ pub fn order_raised(a: &[u8], b: &[u8]) -> Order
         if b.len() <= i {
             return Order::Greater;
         }
-        if a[i] == b[i] {
-            i += 1;
-            continue;
-        }
         let x = raise(a[i]);
         let y = raise(b[i]);
         if x < y {

@@ -77,6 +77,25 @@ passed-whole s r p = by (ltb r (length s)) refl
     by true e = passed-bad s 0 (length s) r (validUpTo s) p (walk-starts s) (ltb-true r (length s) e)
     by false e = out charLen s r (validUpTo s) (ltb-false r (length s) e) (passed-on s 0 (length s) r (validUpTo s) p (walk-starts s))
 
+-- where ASCII stands in front: byte by byte, then all of the text or the characters behind it
+pub none-passed : (s : List ℕ) → Passed s 0 0 0
+none-passed s = record { forward = omega arith; inside = omega arith; same = refl; stopped = λ h. absurd (omega arith) }
+
+pub one-passed : (s : List ℕ) (i : ℕ) → i < length s → getD s i 0 ≤ 0x7F → Passed s 0 0 i → Passed s 0 0 (i + 1)
+one-passed s i h l p = record {
+  forward = omega arith;
+  inside = omega arith;
+  same = ascii-on s i (ends charLen s 0) h l (p .same);
+  stopped = λ z. absurd (omega arith);
+}
+
+pub all-passed : (s : List ℕ) (i : ℕ) → Passed s 0 0 i → i ≡ length s → i ≡ validUpTo s
+all-passed s i p e = out charLen s i (validUpTo s) (omega arith) (p .same ∙ walk-starts s)
+
+pub passed-behind : (s : List ℕ) (i r : ℕ) → Passed s 0 0 i → Passed s i (length s) r → r ≡ validUpTo s
+passed-behind s i r p q =
+    passed-whole s r (record { forward = omega arith; inside = q .inside; same = q .same ∙ p .same; stopped = q .stopped })
+
 pub utf8-is : (s : List ℕ) (r : ℕ) → r ≡ validUpTo s → lib.Dec.eqb r (length s) ≡ utf8 s
 unfolding utf8
 utf8-is s r e = rw e refl

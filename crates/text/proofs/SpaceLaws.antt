@@ -1,6 +1,6 @@
 -- Laws of `specs/Space.antt`. Assumes nothing.
 use mathlib.Core.Path.{_≡_, refl, sym, ap, _∙_}
-use mathlib.Core.Bool.{Bool, true, false, true≢false}
+use mathlib.Core.Bool.{Bool, true, false, not, true≢false}
 use mathlib.Core.Logic.{⊎-elim}
 use Prim.Native.Nat.{ℕ, suc, _+_, _-_, _≤_, _<_}
 use native.Mathlib.Nat.{le-refl, add-zero, zero-add, suc-ne-zero, not-suc-le-zero, le-of-suc-le-suc, eq-or-lt-of-le}
@@ -16,14 +16,7 @@ use Rattle.text.specs.Find.{other}
 use Rattle.text.specs.Walk.{ends, lead}
 use Rattle.text.proofs.Walks.{here, on, out, lead-le}
 use Rattle.text.proofs.Utf8Laws.{pick-le, both-no}
-
-both-left : (a b : Bool) → both a b ≡ true → a ≡ true
-both-left true b e = refl
-both-left false b e = absurd (true≢false (sym e))
-
-both-right : (a b : Bool) → both a b ≡ true → b ≡ true
-both-right true b e = e
-both-right false b e = absurd (true≢false (sym e))
+use Rattle.text.proofs.BoolLaws.{both-left, both-right}
 
 module _ (s : List ℕ) (i n x y z : ℕ) (p q r : Bool) (ex : x ≡ getD s i 0) (ey : y ≡ getD s (i + 1) 0) (ez : z ≡ getD s (i + 2) 0) (ep : p ≡ space1 x) (e : n ≡ width p q r) where
   pub front : q ≡ space2 x y → r ≡ space3 x y z → n ≡ spaceLen (drop i s)
@@ -195,14 +188,17 @@ starts : (s : List ℕ) → 0 ≡ spaceLen (drop 0 s) → 0 ≡ trimStart s
 unfolding trimStart ends
 starts s e = here spaceLen s 0 0 (lead spaceLen s) e refl (simp zero-add)
 
+told : (t : Bool) → not t ≡ false → t ≡ true
+told true e = refl
+told false e = absurd (true≢false e)
+
 -- between two plain bytes nothing is trimmed
-pub trim-whole : (s : List ℕ) (x y : ℕ) (p q t : Bool) → x ≡ getD s 0 0 → y ≡ getD (reverse s) 0 0
-    → p ≡ within x 0x21 0x7F → q ≡ within y 0x21 0x7F → t ≡ both p q → t ≡ true → s ≡ trimmed s
+pub trim-whole : (s : List ℕ) (x y : ℕ) (p q : Bool) → x ≡ getD s 0 0 → y ≡ getD (reverse s) 0 0
+    → p ≡ within x 0x21 0x7F → q ≡ within y 0x21 0x7F → not p ≡ false → not q ≡ false → s ≡ trimmed s
 unfolding trimmed
-trim-whole s x y p q t ex ey ep eq et h =
-    let u : both p q ≡ true = sym et ∙ h in
-    let front : 0 ≡ trimStart s = starts s (plain-front s 0 x p ex ep (both-left p q u)) in
-    let end : length s - 0 ≡ trimEnd s = end-here s 0 0 (plain-back (reverse s) 0 y q ey eq (both-right p q u)) refl (end-start s) in
+trim-whole s x y p q ex ey ep eq front-plain back-plain =
+    let front : 0 ≡ trimStart s = starts s (plain-front s 0 x p ex ep (told p front-plain)) in
+    let end : length s - 0 ≡ trimEnd s = end-here s 0 0 (plain-back (reverse s) 0 y q ey eq (told q back-plain)) refl (end-start s) in
     rw (← front, ← end) (sym (take-all (length s - 0) s (omega arith)))
 
 pub blank-is : (s : List ℕ) (a : ℕ) → a ≡ trimStart s → eqb a (length s) ≡ blank s

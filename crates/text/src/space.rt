@@ -142,10 +142,13 @@ fn cut(s: &[u8]) -> &[u8]
 pub fn trim(s: &[u8]) -> &[u8]
     ensures { λ r. ⌜ now r ≡ trimmed (now (s .entry)) ⌝ }
 {
-    if all(is_plain(byte(s, 0)), is_plain(byte_back(s, 0))) {
-        return s;
+    if !is_plain(byte(s, 0)) {
+        return cut(s);
     }
-    cut(s)
+    if !is_plain(byte_back(s, 0)) {
+        return cut(s);
+    }
+    s
 }
 
 // s is empty or white space throughout.

@@ -149,12 +149,30 @@ fn blocks_up_to(s: &[u8]) -> usize
     i
 }
 
+// How many bytes of ASCII stand in front.
+fn ascii_in_front(s: &[u8]) -> usize
+    ensures { λ r. ⌜ Passed (now (s .entry)) 0 0 r ⌝ }
+{
+    let mut i = 0;
+    while i < s.len() {
+        if 0x7F < s[i] {
+            return i;
+        }
+        i += 1;
+    }
+    i
+}
+
 // The place of the first byte that belongs to no whole character, or the length. For the few bytes of a name no block pays.
 pub fn valid_up_to(s: &[u8]) -> usize
     ensures { λ r. ⌜ r ≡ validUpTo (now (s .entry)) ⌝ }
 {
     if s.len() < SHORT {
-        return chars_up_to(s, 0, s.len());
+        let i = ascii_in_front(s);
+        if i == s.len() {
+            return i;
+        }
+        return chars_up_to(s, i, s.len());
     }
     blocks_up_to(s)
 }

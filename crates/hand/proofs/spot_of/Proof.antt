@@ -1,18 +1,20 @@
-use Rattle.hand.proofs.InsertLaws.{Passed, none-passed, found-below, found-same, found-above, found-end}
+use Rattle.hand.proofs.InsertLaws.{Passed, none-passed, found-later, found-below, found-same, found-above, found-end}
 use borrow.Author.Needs.{needs}
+use mathlib.Core.Path.{_≡_}
 use Prim.Native.Nat.{_≤_, _-_}
-use mathlib.Core.Path.{refl}
-use lib.ListN.{length, take}
-use native.Mathlib.Omega.{arith}
-use Rattle.letters.specs.Capitals.{capitals}
+use lib.ListN.{length, getD, take}
+use Rattle.letters.specs.Capitals.{raised, capitals}
 use Rattle.hand.proofs.spot_of.Statement.{statement}
 use Rattle.hand.proofs.spot_of.Tie as tie
 
 abbrev Inv-loop : tie.InvT-loop
-Inv-loop text rows used name i₀ i = (i ≤ used) × Passed text (capitals name) (take used rows) i
+Inv-loop text rows used name first i₀ i = (first ≡ raised (getD name 0 0)) × (i ≤ used) × Passed text (capitals name) (take used rows) i
 
 abbrev μ-loop : tie.MeasureT-loop
-μ-loop text rows used name i₀ i = used - i
+μ-loop text rows used name first i₀ i = used - i
+
+raised-at-requires : tie.Need-raised-at-requires Inv-loop μ-loop
+raised-at-requires c κs = search needs
 
 loop-holds : tie.Need-loop-holds Inv-loop μ-loop
 loop-holds c = search (needs, none-passed)
@@ -22,6 +24,28 @@ mul-x c = search needs
 
 shared-slice-copy-out-x : tie.Need-shared-slice-copy-out-x Inv-loop μ-loop
 shared-slice-copy-out-x c = search needs
+
+array-read-raised-at : tie.Need-array-read-raised-at Inv-loop μ-loop
+array-read-raised-at c = search needs
+
+raised-at-requires-2 : tie.Need-raised-at-requires-2 Inv-loop μ-loop
+raised-at-requires-2 c κs = search needs
+
+add-i : tie.Need-add-i Inv-loop μ-loop
+add-i c = search needs
+
+loop-less : tie.Need-loop-less Inv-loop μ-loop
+loop-less c = search needs
+
+loop-again : tie.Need-loop-again Inv-loop μ-loop
+loop-again c =
+    let turn = c .before .before .before in
+    let start = turn .before .before .before .before .before in
+    let inv = turn .before .loop .inv in (
+      inv .0,
+      search needs,
+      found-later _ (start .args .rows .now) _ _ (start .args .name .now) _ _ (turn .loop-test .taken) (start .pre) (inv .0) (c .before .raised-at2 .ensures) (c .if1 .taken) (inv .2),
+    )
 
 array-read-order-with : tie.Need-array-read-order-with Inv-loop μ-loop
 array-read-order-with c = search needs
@@ -47,14 +71,14 @@ returns-2 c = search found-same
 enum-told-3 : tie.Need-enum-told-3 Inv-loop μ-loop
 enum-told-3 c = search needs
 
-add-i : tie.Need-add-i Inv-loop μ-loop
-add-i c = search needs
+add-i-2 : tie.Need-add-i-2 Inv-loop μ-loop
+add-i-2 c = search needs
 
-loop-less : tie.Need-loop-less Inv-loop μ-loop
-loop-less c = search needs
+loop-less-2 : tie.Need-loop-less-2 Inv-loop μ-loop
+loop-less-2 c = search needs
 
-loop-again : tie.Need-loop-again Inv-loop μ-loop
-loop-again c = search (needs, found-above)
+loop-again-2 : tie.Need-loop-again-2 Inv-loop μ-loop
+loop-again-2 c = search (needs, found-above)
 
 returns-3 : tie.Need-returns-3 Inv-loop μ-loop
 returns-3 c = search found-end
@@ -65,9 +89,15 @@ spot-of-spec =
     (tie.spec
     Inv-loop
     μ-loop
+    raised-at-requires
     loop-holds
     mul-x
     shared-slice-copy-out-x
+    array-read-raised-at
+    raised-at-requires-2
+    add-i
+    loop-less
+    loop-again
     array-read-order-with
     array-read-order-with-2
     order-with-requires
@@ -76,7 +106,7 @@ spot-of-spec =
     enum-told-2
     returns-2
     enum-told-3
-    add-i
-    loop-less
-    loop-again
+    add-i-2
+    loop-less-2
+    loop-again-2
     returns-3)

@@ -3,7 +3,7 @@ use Prim.Native.Nat.{_≤_, _-_}
 use lib.ListN.{length, drop}
 use borrow.Author.Needs.{needs}
 use Rattle.letters.specs.Order.{orderRaised}
-use Rattle.letters.proofs.OrderLaws.{second-ended, at-same, at-below, at-above, at-level, first-ended, both-ended}
+use Rattle.letters.proofs.OrderLaws.{second-ended, at-below, at-above, at-level, first-ended, both-ended}
 use Rattle.letters.proofs.order_raised.Statement.{statement}
 use Rattle.letters.proofs.order_raised.Tie as tie
 
@@ -18,21 +18,6 @@ loop-holds c = (search needs, refl)
 
 returns : tie.Need-returns Inv-loop μ-loop
 returns c = search second-ended
-
-shared-slice-read-if2 : tie.Need-shared-slice-read-if2 Inv-loop μ-loop
-shared-slice-read-if2 c = search needs
-
-shared-slice-read-if2-2 : tie.Need-shared-slice-read-if2-2 Inv-loop μ-loop
-shared-slice-read-if2-2 c = search needs
-
-add-i : tie.Need-add-i Inv-loop μ-loop
-add-i c = search needs
-
-loop-less : tie.Need-loop-less Inv-loop μ-loop
-loop-less c = search needs
-
-loop-again : tie.Need-loop-again Inv-loop μ-loop
-loop-again c = (search needs, search at-same)
 
 shared-slice-read-raise : tie.Need-shared-slice-read-raise Inv-loop μ-loop
 shared-slice-read-raise c = search needs
@@ -52,21 +37,21 @@ returns-2 c = search at-below
 returns-3 : tie.Need-returns-3 Inv-loop μ-loop
 returns-3 c = search at-above
 
-add-i-2 : tie.Need-add-i-2 Inv-loop μ-loop
-add-i-2 c = search needs
+add-i : tie.Need-add-i Inv-loop μ-loop
+add-i c = search needs
 
-loop-less-2 : tie.Need-loop-less-2 Inv-loop μ-loop
-loop-less-2 c = search needs
+loop-less : tie.Need-loop-less Inv-loop μ-loop
+loop-less c = search needs
 
-loop-again-2 : tie.Need-loop-again-2 Inv-loop μ-loop
-loop-again-2 c =
-    let turn = c .before .before .before .before .before .before .before .before .before in (
+loop-again : tie.Need-loop-again Inv-loop μ-loop
+loop-again c =
+    let turn = c .before .before .before .before .before .before in (
       search needs,
       at-level _ _ _ _ (turn .before .before .loop .inv .1) (turn .before .loop-test .taken) _ _ (turn .if1 .left)
           (c .before .before .before .before .raise .ensures)
           (c .before .before .raise2 .ensures)
-          (c .if4 .left)
-          (c .before .if3 .left),
+          (c .if3 .left)
+          (c .before .if2 .left),
     )
 
 returns-4 : tie.Need-returns-4 Inv-loop μ-loop
@@ -83,19 +68,14 @@ order-raised-spec =
     μ-loop
     loop-holds
     returns
-    shared-slice-read-if2
-    shared-slice-read-if2-2
-    add-i
-    loop-less
-    loop-again
     shared-slice-read-raise
     raise-requires
     shared-slice-read-raise-2
     raise-requires-2
     returns-2
     returns-3
-    add-i-2
-    loop-less-2
-    loop-again-2
+    add-i
+    loop-less
+    loop-again
     returns-4
     returns-5)
