@@ -22,7 +22,7 @@ use Rattle.mhz.specs.Reading.{readHertz}
 use Rattle.mhz.specs.declared.Hz.{Hz}
 use Rattle.mhz.specs.declared.Hz.the-variants.{Absent, Is, Outside}
 use Rattle.tables.specs.Table.{firstFrom, named, isFound}
-use Rattle.tables.specs.Place.{absent, part, value, orEmpty, bytes}
+use Rattle.tables.specs.Place.{absent, part, value, orEmpty, bytes, valuePlace}
 use Rattle.tables.specs.declared.Place.{Place}
 use Rattle.adif.specs.Grammar.{Field}
 use Rattle.rowcheck.specs.Check.{Row, nameIn}
@@ -35,7 +35,7 @@ use Rattle.model.specs.declared.Frequency.{Frequency}
 use Rattle.model.specs.declared.Dxcc.{Dxcc}
 use Rattle.model.specs.declared.Qso.{Qso}
 use Rattle.mapping.specs.Contact.{valueNamed, hertzRead, frequencyRead, entityRead, dxccRead, extraFields, contactOf}
-use Rattle.mapping.specs.Mapping.{valuePlace, placeNamed, columnsOf, extraRows, frequencyOf, dxccOf, dxccAt, qsoWith}
+use Rattle.mapping.specs.Mapping.{placeNamed, columnsOf, extraRows, frequencyOf, dxccOf, dxccAt, qsoWith}
 use Rattle.mapping.proofs.AnswerLaws.{no-hertz, no-number}
 use Rattle.meaning.proofs.NormalMeaning.{first-alike, raised-alike}
 

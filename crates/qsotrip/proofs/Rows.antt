@@ -22,7 +22,7 @@ use Rattle.refusals.specs.declared.Verdict.the-variants.{Accepted, Refused}
 use Rattle.adif.specs.Grammar.{Field}
 use Rattle.adif.specs.Limits.{Ascending}
 use Rattle.rowcheck.specs.Check.{Row, recordIn, nameIn, isLess}
-use Rattle.tables.specs.Place.{part, orEmpty}
+use Rattle.tables.specs.Place.{part, orEmpty, valuePlace}
 use Rattle.tables.proofs.Tested.{both-left, both-right}
 use Rattle.writer.specs.Rows.{rowsFrom, rowField}
 use Rattle.trip.proofs.Means.{named}
@@ -33,7 +33,7 @@ use Rattle.model.specs.Answer.{noFrequency, emptyQso, accepted, refused}
 use Rattle.model.specs.declared.Answer.{Answer}
 use Rattle.model.specs.declared.Qso.{Qso}
 use Rattle.mapping.specs.Contact.{valueNamed, columnValue, contactOf}
-use Rattle.mapping.specs.Mapping.{valuePlace, placeNamed, columnsOf, extraRows, hertzAt, isOutside, frequencyOf, qsoWith, answerWith, answerOver, mapped, isRow, rises, goesOn, isRecord, mappedTo}
+use Rattle.mapping.specs.Mapping.{placeNamed, columnsOf, extraRows, hertzAt, isOutside, frequencyOf, qsoWith, answerWith, answerOver, mapped, isRow, rises, goesOn, isRecord, mappedTo}
 use Rattle.mapping.proofs.AnswerLaws.{no-hertz}
 use Rattle.meaning.proofs.MappingMeaning.{mapped-means}
 use Rattle.qsowriter.specs.Record.{megahertz}
