@@ -1,6 +1,6 @@
 -- Laws of `specs/Space.antt`. Assumes nothing.
 use mathlib.Core.Path.{_≡_, refl, sym, ap, _∙_}
-use mathlib.Core.Bool.{Bool, true, false, true≢false}
+use mathlib.Core.Bool.{Bool, true, false}
 use mathlib.Core.Logic.{⊎-elim}
 use Prim.Native.Nat.{ℕ, suc, _+_, _-_, _≤_, _<_}
 use native.Mathlib.Nat.{le-refl, add-zero, zero-add, suc-ne-zero, not-suc-le-zero, le-of-suc-le-suc, eq-or-lt-of-le}
@@ -14,16 +14,9 @@ use Rattle.text.specs.Pick.{both, within}
 use Rattle.text.specs.Space.{space1, space2, space3, space80, spaceLen, spaceBack, width, trimStart, trimEnd, trimmed, blank}
 use Rattle.text.specs.Find.{other}
 use Rattle.text.specs.Walk.{ends, lead}
+use Rattle.text.proofs.BoolLaws.{both-left, both-right}
 use Rattle.text.proofs.Walks.{here, on, out, lead-le}
 use Rattle.text.proofs.Utf8Laws.{pick-le, both-no}
-
-both-left : (a b : Bool) → both a b ≡ true → a ≡ true
-both-left true b e = refl
-both-left false b e = absurd (true≢false (sym e))
-
-both-right : (a b : Bool) → both a b ≡ true → b ≡ true
-both-right true b e = e
-both-right false b e = absurd (true≢false (sym e))
 
 module _ (s : List ℕ) (i n x y z : ℕ) (p q r : Bool) (ex : x ≡ getD s i 0) (ey : y ≡ getD s (i + 1) 0) (ez : z ≡ getD s (i + 2) 0) (ep : p ≡ space1 x) (e : n ≡ width p q r) where
   pub front : q ≡ space2 x y → r ≡ space3 x y z → n ≡ spaceLen (drop i s)
@@ -93,22 +86,22 @@ unfolding width
 one-le p = search small
 
 -- a byte that is 0 is in no white space
-none2 : (a : ℕ) → space2 a 0 ≡ false
+pub none2 : (a : ℕ) → space2 a 0 ≡ false
 unfolding space2
 none2 a = simp both-no
 
-none3 : (a b : ℕ) → space3 a b 0 ≡ false
+pub none3 : (a b : ℕ) → space3 a b 0 ≡ false
 unfolding space3 space80
 none3 a b = simp both-no
 
-front-within : (xs : List ℕ) → 0 < length xs → spaceLen xs ≤ length xs
+pub front-within : (xs : List ℕ) → 0 < length xs → spaceLen xs ≤ length xs
 unfolding spaceLen
 front-within [] h = absurd (not-suc-le-zero h)
 front-within (a ∷ []) h = rw (none2, none3) (one-le (space1 a))
 front-within (a ∷ b ∷ []) h = rw none3 (two-le (space1 a) (space2 a b))
 front-within (a ∷ b ∷ c ∷ r) h = omega (arith, three-le (space1 a) (space2 a b) (space3 a b c))
 
-back-within : (xs : List ℕ) → 0 < length xs → spaceBack xs ≤ length xs
+pub back-within : (xs : List ℕ) → 0 < length xs → spaceBack xs ≤ length xs
 unfolding spaceBack space2 space3
 back-within [] h = absurd (not-suc-le-zero h)
 back-within (a ∷ []) h = one-le (space1 a)
