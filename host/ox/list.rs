@@ -2,9 +2,9 @@
 
 use crate::files::{self, Out};
 use crate::refused;
-use crate::table::{Line, cell, laid_out};
+use crate::table::{self, Line, laid_out};
 use crate::{Failure, Said, done, json};
-use oxbreathe::contacts::{List, Mark, Service, Services, Writer, check, is_fresh};
+use oxbreathe::contacts::{Contact, List, Mark, Service, Services, Writer, check, is_fresh};
 use oxbreathe::plan::{Fate, plan, plan_download};
 use oxbreathe::reading::Record;
 use std::collections::BTreeMap;
@@ -56,20 +56,14 @@ pub fn make(from: &Path, out: &Out) -> Result<Said, Failure> {
 pub fn show(path: &Path) -> Result<Said, Failure> {
     let bytes = files::read(path)?;
     let list = refused::of(path, &bytes, List::new(&bytes))?;
-    let line = |contact: oxbreathe::contacts::Contact| Line {
-        cells: [
-            contact.id.to_string(),
-            cell(contact.call),
-            contact.date.to_string(),
-            contact.time.to_string(),
-            cell(contact.band),
-            cell(contact.mode),
-            contact.services.iter().map(Service::name).collect::<Vec<_>>().join(" "),
-        ],
+    let line = |contact: Contact| Line {
+        number: contact.id.to_string(),
+        contact: table::contact(&contact),
+        said: [contact.services.iter().map(Service::name).collect::<Vec<_>>().join(" ")],
         colour: None,
     };
     let lines: Vec<_> = list.contacts().map(line).collect();
-    let table = laid_out(["id", "call", "date", "time", "band", "mode", "confirmed by"], &lines);
+    let table = laid_out("id", ["confirmed by"], &lines);
     done(format!("{table}\n{}\n", marked(list.mark())))
 }
 

@@ -3,7 +3,7 @@
 use crate::args::{Form, Preview};
 use crate::json::{Object, array, inline, quoted};
 use crate::refused::{self, Refused};
-use crate::table::{Line, cell, colour, laid_out};
+use crate::table::{self, Line, cell, colour, laid_out};
 use crate::{Failure, Said, done, files, html};
 use oxbreathe::contacts::{self, Contact, List, Writer};
 use oxbreathe::plan::{Confirmation, Counts, Fate, Plan, plan, plan_download};
@@ -111,37 +111,23 @@ impl Shown<'_> {
 
     fn text(&self, coloured: bool) -> String {
         let line = |record: &Record| Line {
-            cells: [
-                record.number.to_string(),
-                cell(&record.call),
-                cell(&record.date),
-                cell(&record.time),
-                cell(&record.band),
-                cell(&record.mode),
-                record.fate.name().to_string(),
-                record.reason().to_string(),
-            ],
+            number: record.number.to_string(),
+            contact: [&record.call, &record.date, &record.time, &record.band, &record.mode].map(|text| cell(text)),
+            said: [record.fate.name().to_string(), record.reason().to_string()],
             colour: coloured.then(|| colour(record.fate)),
         };
         let lines: Vec<_> = self.records.iter().map(line).collect();
-        let mut text = laid_out(["no", "call", "date", "time", "band", "mode", "fate", "reason"], &lines);
+        let mut text = laid_out("no", ["fate", "reason"], &lines);
         if !self.confirmations.is_empty() {
             let line = |(confirmation, contact): &(Confirmation, Contact)| Line {
-                cells: [
-                    confirmation.id.to_string(),
-                    cell(contact.call),
-                    contact.date.to_string(),
-                    contact.time.to_string(),
-                    cell(contact.band),
-                    cell(contact.mode),
-                    confirmation.service.name().to_string(),
-                    cell(confirmation.date.unwrap_or_default()),
-                ],
+                number: confirmation.id.to_string(),
+                contact: table::contact(contact),
+                said: [confirmation.service.name().to_string(), cell(confirmation.date.unwrap_or_default())],
                 colour: None,
             };
             let lines: Vec<_> = self.confirmations.iter().map(line).collect();
             text += "\nnewly confirmed:\n";
-            text += &laid_out(["id", "call", "date", "time", "band", "mode", "by", "on"], &lines);
+            text += &laid_out("id", ["by", "on"], &lines);
         }
         if !self.asked.only.is_empty() {
             text += &format!("\n{} of {} records shown", self.records.len(), self.plan.fates.len());

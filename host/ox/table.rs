@@ -1,6 +1,8 @@
 //! Text laid out in columns for a terminal.
 
+use oxbreathe::contacts::Contact;
 use oxbreathe::plan::Fate;
+use std::iter::once;
 
 /// A text of a file as it can be shown on one line: what would move the cursor, change colours or turn the reading order becomes a mark.
 pub fn plain(text: &str) -> String {
@@ -38,30 +40,48 @@ pub fn colour(fate: Fate) -> u8 {
     }
 }
 
-/// A line of cells, perhaps coloured.
+/// The columns of a contact, in every table.
+const CONTACT: [&str; 5] = ["call", "date", "time", "band", "mode"];
+
+/// The cells of a contact under them.
+pub fn contact(contact: &Contact) -> [String; 5] {
+    [contact.call, contact.date, contact.time, contact.band, contact.mode].map(cell)
+}
+
+/// A number, a contact and what is said of it, perhaps coloured.
 pub struct Line<const N: usize> {
-    pub cells: [String; N],
+    pub number: String,
+    pub contact: [String; 5],
+    pub said: [String; N],
     pub colour: Option<u8>,
 }
 
-/// The lines under their head, the first column to the right, which has numbers.
-pub fn laid_out<const N: usize>(head: [&str; N], lines: &[Line<N>]) -> String {
-    let mut widths = head.map(|name| name.chars().count());
-    for line in lines {
-        for (width, cell) in widths.iter_mut().zip(&line.cells) {
-            *width = (*width).max(cell.chars().count());
+impl<const N: usize> Line<N> {
+    fn cells(&self) -> Vec<&str> {
+        once(&self.number).chain(&self.contact).chain(&self.said).map(String::as_str).collect()
+    }
+}
+
+/// The lines under their head, the numbers to the right.
+pub fn laid_out<const N: usize>(number: &str, said: [&str; N], lines: &[Line<N>]) -> String {
+    let head: Vec<&str> = once(number).chain(CONTACT).chain(said).collect();
+    let rows: Vec<Vec<&str>> = lines.iter().map(Line::cells).collect();
+    let mut widths = vec![0; head.len()];
+    for row in once(&head).chain(&rows) {
+        for (width, cell) in widths.iter_mut().zip(row) {
+            *width = cell.chars().count().max(*width);
         }
     }
-    let row = |cells: [&str; N]| {
-        let padded = cells.iter().zip(widths).enumerate().map(|(column, (cell, width))| {
+    let row = |cells: &[&str]| {
+        let padded = cells.iter().zip(&widths).enumerate().map(|(column, (cell, &width))| {
             if column == 0 { format!("{cell:>width$}") } else { format!("{cell:width$}") }
         });
         padded.collect::<Vec<_>>().join("  ").trim_end().to_string()
     };
-    let mut text = row(head) + "\n";
-    for Line { cells, colour } in lines {
-        let row = row(cells.each_ref().map(String::as_str));
-        text += &colour.map_or(format!("{row}\n"), |colour| format!("\x1b[{colour}m{row}\x1b[0m\n"));
+    let mut text = row(&head) + "\n";
+    for (line, cells) in lines.iter().zip(&rows) {
+        let row = row(cells);
+        text += &line.colour.map_or(format!("{row}\n"), |colour| format!("\x1b[{colour}m{row}\x1b[0m\n"));
     }
     text
 }

@@ -12,6 +12,10 @@ use Rattle.letters.specs.declared.Order.{Order}
 use Rattle.letters.specs.declared.Order.the-variants.{Less, Equal, Greater}
 use Rattle.adif.specs.Records.{Fields, Item, eoh, eor, field, Outcome, records, refused, Turn, on, no, then, total, close, finish, placed, put, act}
 
+pub total-map : {F G : Type 0} (f : F → G) (rs : List (List F)) → total (map (map f) rs) ≡ total rs
+total-map f [] = refl
+total-map f (r ∷ rs) = rw (length-map r f, total-map f rs) refl
+
 module _ {F G W X : Type 0} (φ : F → G) (ψ : W → X) where
   abbrev pub mapTurn : Turn F W → Turn G X
   mapTurn (on h d) = on (map φ h) (map (map φ) d)
@@ -20,10 +24,6 @@ module _ {F G W X : Type 0} (φ : F → G) (ψ : W → X) where
   abbrev pub mapOutcome : Outcome F W → Outcome G X
   mapOutcome (records rs) = records (map (map φ) rs)
   mapOutcome (refused w) = refused (ψ w)
-
-  total-map : (rs : List (List F)) → total (map (map φ) rs) ≡ total rs
-  total-map [] = refl
-  total-map (r ∷ rs) = rw (length-map r φ, total-map rs)
 
   turn-pick : (t : Bool) (a b : Turn F W) → mapTurn (pick t a b) ≡ pick t (mapTurn a) (mapTurn b)
   turn-pick true a b = refl
@@ -60,7 +60,7 @@ module _ {F G W X : Type 0} (φ : F → G) (ψ : W → X) where
     pub close-map : (room : ℕ) (hand : List F) (done : List (List F)) → mapTurn (close K room hand done) ≡ close L room (map φ hand) (map (map φ) done)
     close-map room [] done = refl
     close-map room (h ∷ hs) done =
-        simp (turn-pick, map-append (map φ) done ((h ∷ hs) ∷ []), length-map done (map φ), length-map hs φ, total-map done, S .nine, S .ten)
+        simp (turn-pick, map-append (map φ) done ((h ∷ hs) ∷ []), length-map done (map φ), length-map hs φ, total-map φ done, S .nine, S .ten)
 
     pub finish-map : (room : ℕ) (hand : List F) (done : List (List F)) → mapOutcome (finish K room hand done) ≡ finish L room (map φ hand) (map (map φ) done)
     finish-map room hand [] = refl

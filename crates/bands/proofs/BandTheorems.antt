@@ -9,13 +9,14 @@ use native.Mathlib.Omega.{arith}
 use lib.Dec.{leb, ltb}
 use lib.ListN.{length, getD, List·getD-eq-default}
 use borrow.Author.Tests.{leb-true, ltb-true, ltb-false}
+use Rattle.text.proofs.BoolLaws.{both-left, both-right}
 use Rattle.letters.specs.Capitals.{raised}
 use Rattle.letters.specs.Same.{sameRaised}
 use Rattle.tables.specs.Table.{firstFrom}
 use Rattle.tables.specs.Bands.{Band, bands, bandNames, holds, bandFor}
 use Rattle.tables.specs.declared.Found.{Found}
 use Rattle.tables.specs.declared.Found.the-variants.{At, Nothing}
-use Rattle.tables.proofs.Tested.{both-left, both-right, all, pairs, all-at, pair-at}
+use Rattle.tables.proofs.Tested.{all, pairs, all-at, pair-at}
 
 -- the band at k, and past the end of the table one that holds no frequency
 abbrev pub noBand : Band

@@ -7,7 +7,8 @@ use lib.Dec.{eqb}
 use lib.ListN.{getD}
 use borrow.Author.Tests.{eqb-true}
 use Rattle.text.specs.Pick.{pick, both, either}
-use Rattle.text.proofs.BoolLaws.{cases, never, both-left, both-right, both-true}
+use Rattle.text.proofs.BoolLaws.{cases, never, both-left, both-right, both-true, either-either, either-none}
+use Rattle.text.proofs.Utf8Laws.{both-no}
 use Rattle.tables.specs.declared.Place.{Place}
 use Rattle.confirmations.specs.Confirmations.{answered, attributed, answersOf}
 use Rattle.confirmations.specs.declared.Answer.{Answer}
@@ -72,10 +73,6 @@ bears-cons : (c : ℕ → Bool) (x : ℕ) (p : Bool) (s : ℕ) (d : Place) (l : 
 bears-cons c x false s d l = refl
 bears-cons c x true s d l = cases (c s) (λ u. rw u refl) (λ u. rw u refl)
 
-both-no : (a : Bool) → both a false ≡ false
-both-no true = refl
-both-no false = refl
-
 bears-at : (c : ℕ → Bool) (x : ℕ) (p : Bool) (s : ℕ) (d : Place) (l : List Answer) → bears (given c l) x ≡ both (bears l x) (c x) → either (both (both p (c s)) (eqb s x)) (bears (given c l) x) ≡ both (either (both p (eqb s x)) (bears l x)) (c x)
 bears-at c x false s d l i = i
 bears-at c x true s d l i =
@@ -110,17 +107,9 @@ bit-at false false true false = (refl, refl, refl, refl)
 bit-at false false false true = (refl, refl, refl, refl)
 bit-at false false false false = (refl, refl, refl, refl)
 
-either-no : (a : Bool) → a ≡ either a false
-either-no true = refl
-either-no false = refl
-
-either-either : (a b c : Bool) → either (either a b) c ≡ either a (either b c)
-either-either true b c = refl
-either-either false b c = refl
-
 module _ (to : Target) (c : ℕ → Bool) where
   marks-over : (f : Tally → Bool) (x : ℕ) → ((a : Answer) (t : Tally) → f (tallyOf to c a t) ≡ either (f t) (both (both (a .present) (c (a .service))) (eqb (a .service) x))) → (l : List Answer) (t : Tally) → f (tallyOver to c l t) ≡ either (f t) (bears (given c l) x)
-  marks-over f x h [] t = either-no (f t)
+  marks-over f x h [] t = sym (either-none (f t))
   marks-over f x h (a ∷ l) t =
       marks-over f x h l (tallyOf to c a t)
       ∙ ap (λ (b : Bool). either b (bears (given c l) x)) (h a t)
@@ -130,22 +119,22 @@ module _ (to : Target) (c : ℕ → Bool) where
   lotw-one : (p : Bool) (s : ℕ) (d : Place) (t : Tally) → tallyOf to c (answer p s d) t .lotw ≡ either (t .lotw) (both (both p (c s)) (eqb s 1))
   unfolding tallyOf tallyWith
   lotw-one true s d t = refl
-  lotw-one false s d t = either-no (t .lotw)
+  lotw-one false s d t = sym (either-none (t .lotw))
 
   eqsl-one : (p : Bool) (s : ℕ) (d : Place) (t : Tally) → tallyOf to c (answer p s d) t .eqsl ≡ either (t .eqsl) (both (both p (c s)) (eqb s 2))
   unfolding tallyOf tallyWith
   eqsl-one true s d t = refl
-  eqsl-one false s d t = either-no (t .eqsl)
+  eqsl-one false s d t = sym (either-none (t .eqsl))
 
   qrz-one : (p : Bool) (s : ℕ) (d : Place) (t : Tally) → tallyOf to c (answer p s d) t .qrz ≡ either (t .qrz) (both (both p (c s)) (eqb s 4))
   unfolding tallyOf tallyWith
   qrz-one true s d t = refl
-  qrz-one false s d t = either-no (t .qrz)
+  qrz-one false s d t = sym (either-none (t .qrz))
 
   qsl-one : (p : Bool) (s : ℕ) (d : Place) (t : Tally) → tallyOf to c (answer p s d) t .qsl ≡ either (t .qsl) (both (both p (c s)) (eqb s 8))
   unfolding tallyOf tallyWith
   qsl-one true s d t = refl
-  qsl-one false s d t = either-no (t .qsl)
+  qsl-one false s d t = sym (either-none (t .qsl))
 
   -- the bits of the services that counted, of a record that began with none
   pub services-over : (l : List Answer) (t : Tally) (s : ℕ) → isService s ≡ true → hasBit (servicesIn (tallyOver to c l (unmarked t))) s ≡ bears (given c l) s

@@ -114,9 +114,9 @@ fn confirm_at(
 {
     let to = tallies::target_of(
         list,
-        counted::number_in(rows[k], 0),
-        counted::number_in(rows[k], 22),
-        counted::number_in(rows[k], 27),
+        entries::number_in(rows[k], 0),
+        entries::number_in(rows[k], 22),
+        entries::number_in(rows[k], 27),
     );
     let answers = answers_at(text, table, rows[k]);
     let r = with_answers(
@@ -155,7 +155,7 @@ fn confirm_one(
     ensures { λ r. ⌜ now (rows .exit) ≡ pick (confirms (col (now (rows .entry)) k 0)) (rowsAt (now (rows .entry)) n k (servicesIn r)) (now (rows .entry)) ⌝ }
     ensures { λ r. ⌜ Grown 4 t r ⌝ }
 {
-    let fate = counted::number_in(rows[k], 0);
+    let fate = entries::number_in(rows[k], 0);
     if text::any(fate == CONFIRMED, fate == UNMATCHED) {
         return confirm_at(text, table, list, rows, n, k, cards, t);
     }

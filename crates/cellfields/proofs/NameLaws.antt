@@ -3,10 +3,11 @@ use mathlib.Core.Path.{_≡_, refl, sym, ap, _∙_}
 use mathlib.Core.Bool.{Bool, true, false}
 use mathlib.Core.List.{List, [], _∷_}
 use mathlib.Core.Option.{Option, none, some}
-use Prim.Native.Nat.{ℕ, zero, suc, _≤_}
+use Prim.Native.Nat.{ℕ, zero, suc, _+_, _≤_, _<_}
+use native.Mathlib.Numerals.{add-one}
 use lib.Dec.{leb}
-use lib.ListN.{length, getD, take}
-use lib.Seq.{take-take, take-append-seam}
+use lib.ListN.{length, getD, take, drop}
+use lib.Seq.{drop-cons}
 use borrow.Author.Tests.{leb-true}
 use Rattle.text.specs.Pick.{both}
 use Rattle.text.proofs.BoolLaws.{both-left, both-right}
@@ -19,6 +20,7 @@ use Rattle.tables.specs.Modes.{modes, modeNames}
 use Rattle.tables.specs.Place.{orEmpty, spelled}
 use Rattle.tables.specs.declared.Name.{Name}
 use Rattle.tables.proofs.TableLaws.{name-at}
+use Rattle.tables.proofs.EntryLaws.{spelled-out}
 use Rattle.cells.specs.Cells.{columnOrder}
 use Rattle.cellfields.specs.Fields.{nameAt, columnName}
 
@@ -57,6 +59,11 @@ pub column-short : (k : ℕ) → length (nameAt k) ≤ 12
 unfolding nameAt columnOrder
 column-short k = short-in columnOrder k refl
 
+-- the names from column k on
+pub names-from : (k : ℕ) → k < 13 → drop k columnOrder ≡ nameAt k ∷ drop (k + 1) columnOrder
+unfolding nameAt columnOrder
+names-from k h = rw add-one (drop-cons columnOrder k [] h)
+
 -- ---- the columns' names are in capitals
 abbrev isCapital : List ℕ → Bool
 isCapital n = same (capitals n) n
@@ -66,12 +73,9 @@ unfolding nameAt columnOrder raised
 column-capital k = same-true (capitals (nameAt k)) (nameAt k) (at-each isCapital refl columnOrder k refl)
 
 -- ---- a name is the front of its twelve bytes
-pub spelled-front : (x : List ℕ) → length x ≤ 12 → take (spelled x .len) (spelled x .bytes) ≡ x
-spelled-front x h = take-take (length x) 12 _ h ∙ take-append-seam x _
-
 pub column-front : (k : ℕ) (n : Name) → n ≡ columnName k → (n .len ≤ 12) × (take (n .len) (n .bytes) ≡ nameAt k)
 unfolding columnName
-column-front k n e = rw e (column-short k, spelled-front (nameAt k) (column-short k))
+column-front k n e = rw e (column-short k, spelled-out (nameAt k) (column-short k))
 
 pub short-name : (k : ℕ) (n : Name) → n ≡ columnName k → n .len ≤ 12
 short-name k n e = column-front k n e .0

@@ -12,12 +12,13 @@ use Rattle.text.specs.Pick.{pick, both, either}
 use Rattle.letters.specs.Capitals.{raised, capitals}
 use Rattle.decimal.specs.Digits.{decimal}
 use Rattle.output.specs.Put.{Put, Room}
-use Rattle.output.proofs.PutLaws.{put-none, put-then, room-first, room-next}
+use Rattle.output.proofs.PutLaws.{put-none, put-then, room-first, room-next, room-second, room-third, put-three}
+use Rattle.output.proofs.DigitLaws.{decimal-few}
 use Rattle.mhz.specs.Writing.{mhzText}
-use Rattle.mhz.proofs.WriteLaws.{few-digits, size-is}
+use Rattle.mhz.proofs.WriteLaws.{size-is}
 use Rattle.fields.specs.Written.{fieldText}
 use Rattle.fields.specs.Parts.{fieldAs, openText, lengthText, valueText}
-use Rattle.fields.proofs.FieldLaws.{field-parts, field-size, room-second, room-third, put-three}
+use Rattle.fields.proofs.FieldLaws.{field-parts, field-size}
 use Rattle.tables.specs.Table.{entry}
 use Rattle.tables.specs.Bands.{bandNames}
 use Rattle.tables.specs.Modes.{modeNames}
@@ -25,11 +26,12 @@ use Rattle.tables.specs.Place.{inText, part, value, bytes, orEmpty, spelled, no
 use Rattle.tables.specs.declared.Name.{Name}
 use Rattle.tables.specs.declared.Place.{Place}
 use Rattle.tables.proofs.PlaceLaws.{part-length}
+use Rattle.tables.proofs.EntryLaws.{spelled-out}
 use Rattle.cells.specs.Cells.{numberText, cellText}
 use Rattle.cells.specs.declared.Cell.{Cell}
 use Rattle.cells.specs.declared.Cell.the-variants.{Dropped, Words, Megahertz, Number}
 use Rattle.cellfields.specs.Fields.{nameAt, columnName, tagText, cellField}
-use Rattle.cellfields.proofs.NameLaws.{band-short, mode-short, column-short, column-capital, spelled-front, column-front}
+use Rattle.cellfields.proofs.NameLaws.{band-short, mode-short, column-short, column-capital, column-front}
 
 -- ---- a signed number
 module _ (negative : Bool) (n : ℕ) (t : Bool) (e : t ≡ both negative (ltb 0 n)) where
@@ -61,9 +63,6 @@ module _ (negative : Bool) (n : ℕ) (t : Bool) (e : t ≡ both negative (ltb 0 
     pub plain-put : t ≡ false → (r : ℕ) (now : List ℕ) → Put r was now at (decimal n) → Put r was now at (numberText negative n)
     plain-put h r now s = rw (plain-text h) s
 
-pub few : (n d : ℕ) → d ≡ length (decimal n) → d ≤ 20
-few n d e = omega (arith, e, few-digits n)
-
 -- ---- the bytes of a place
 module _ (text : List ℕ) (p : Place) where
   stand-text : p .kind ≡ 1 → bytes text p ≡ part text p
@@ -82,8 +81,8 @@ module _ (text : List ℕ) (p : Place) where
       by : (c d : Bool) → (pick c (spelled (orEmpty (entry bandNames (p .start)))) (pick d (spelled (orEmpty (entry modeNames (p .start)))) noName) .len ≤ 12)
           × (take (pick c (spelled (orEmpty (entry bandNames (p .start)))) (pick d (spelled (orEmpty (entry modeNames (p .start)))) noName) .len) (pick c (spelled (orEmpty (entry bandNames (p .start)))) (pick d (spelled (orEmpty (entry modeNames (p .start)))) noName) .bytes)
           ≡ orEmpty (pick c (entry bandNames (p .start)) (pick d (entry modeNames (p .start)) none)))
-      by true d = (band-short (p .start), spelled-front _ (band-short (p .start)))
-      by false true = (mode-short (p .start), spelled-front _ (mode-short (p .start)))
+      by true d = (band-short (p .start), spelled-out _ (band-short (p .start)))
+      by false true = (mode-short (p .start), spelled-out _ (mode-short (p .start)))
       by false false = (omega arith, refl)
 
   module _ (was : List ℕ) (at : ℕ) where
@@ -126,7 +125,7 @@ module _ (text : List ℕ) (p : Place) where
 
 -- ---- the bytes of a cell
 mhz-few : (hz : ℕ) → length (mhzText hz) ≤ 27
-mhz-few hz = omega (arith, size-is hz _ refl, few-digits (hz / 1000000))
+mhz-few hz = omega (arith, size-is hz _ refl, decimal-few (hz / 1000000))
 
 pub words-bound : (text : List ℕ) (p : Place) (r : ℕ) → length text ≤ 16777216 → r ≡ length (bytes text p) → r ≤ 16777216
 words-bound text p r h e = rw e (words-few text p h)

@@ -5,7 +5,7 @@ use mathlib.Core.List.{List, [], _∷_, _++_, map}
 use Prim.Native.Nat.{ℕ, zero, suc, _+_, _/_, _≤_, _<_}
 use native.Mathlib.Omega.{arith}
 use lib.IntN.{ℤ}
-use lib.ListN.{length, getD, take, drop, length-map, length-append}
+use lib.ListN.{length, getD, take, drop, length-map}
 use lib.Seq.{take-suc, take-all}
 use Rattle.chain.specs.Chain.{col}
 use Rattle.refusals.specs.declared.Refusal.{Refusal}
@@ -17,8 +17,9 @@ use Rattle.reader.specs.declared.Reading.the-variants.{Read, Refused as Unread}
 use Rattle.contacts.specs.Lists.{contactsOf}
 use Rattle.search.specs.Search.{placeOf}
 use Rattle.plan.specs.Entry.{Entry, noEntry}
-use Rattle.plan.specs.Fates.{found, fatesTo, fatesIn}
+use Rattle.plan.specs.Fates.{found, fatesIn}
 use Rattle.plan.specs.Plan.{Plan, planFrom, planned, reasonsOf, hitsOf, fatesOf}
+use Rattle.plan.proofs.FateLaws.{fates-many}
 use Rattle.entries.specs.Row.{Row}
 use Rattle.entries.specs.Filled.{ReadInto, entriesRead, Says, Answers, Said, Answered}
 use Rattle.entries.proofs.ReadFit.{FitRead, text-fit}
@@ -59,11 +60,6 @@ module _ (rows : List Row) (n : ℕ) (xs : List ℕ) (l : n ≡ length xs) where
 
   pub hits-are : ((k : ℕ) → k < n → col rows k 22 ≡ getD xs k 0) → hitsIn rows n ≡ xs
   hits-are e = hits-take e n (omega arith) ∙ take-all n xs (omega (arith, l))
-
-pub fates-many : (w : ℤ) (download : Bool) (es : List Entry) (hits : List ℕ) (k : ℕ) → length (fatesTo w download es hits k) ≡ k
-unfolding fatesTo
-fates-many w download es hits zero = refl
-fates-many w download es hits (suc k) = length-append (fatesTo w download es hits k) _ ∙ omega (arith, fates-many w download es hits k)
 
 -- ---- what stays said where the fates are settled
 module _ (r s : Row) (e : fates.keptOf s ≡ fates.keptOf r) where

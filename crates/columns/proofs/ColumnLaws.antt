@@ -9,11 +9,18 @@ use Rattle.text.specs.Ascii.{ascii}
 use Rattle.letters.specs.Capitals.{capitals}
 use Rattle.letters.specs.Same.{same, sameRaised}
 use Rattle.letters.proofs.SameLaws.{same-refl, same-true, lengths-differ-raised}
+use Rattle.letters.proofs.CapitalLaws.{capitals-twice}
 use Rattle.tables.specs.Table.{named, isFound}
 use Rattle.tables.specs.declared.Found.{Found}
 use Rattle.tables.specs.declared.Found.the-variants.{At, Nothing}
+use Rattle.tables.proofs.EntryLaws.{first-alike}
 use Rattle.columns.specs.Columns.{columnNames, columnNamed, Told}
 use Rattle.columns.proofs.LaidLaws.{is-column}
+
+-- a name and the same in capitals name one column
+pub named-raised : (x : List ℕ) → columnNamed (capitals x) ≡ columnNamed x
+unfolding columnNamed named sameRaised
+named-raised x = first-alike (sameRaised (capitals x)) (sameRaised x) (λ n. rw (capitals-twice x) refl) 0 columnNames
 
 other-length : (x n : List ℕ) → (length x ≡ length n → ⊥) → sameRaised x n ≡ false
 other-length x n h = sym (lengths-differ-raised x n h)

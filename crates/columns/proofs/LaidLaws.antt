@@ -7,13 +7,14 @@ use native.Mathlib.Nat.{not-suc-le-zero, le-of-suc-le-suc}
 use native.Mathlib.Omega.{arith}
 use lib.ListN.{length, getD, set}
 use Rattle.text.specs.Pick.{pick, both}
+use Rattle.text.proofs.BoolLaws.{both-left, both-right}
 use Rattle.letters.specs.Capitals.{raised, capitals}
 use Rattle.letters.specs.Same.{same, sameRaised}
 use Rattle.letters.proofs.SameLaws.{same-refl, same-raised-true}
 use Rattle.tables.specs.Table.{firstFrom, named}
 use Rattle.tables.specs.declared.Found.{Found}
 use Rattle.tables.specs.declared.Found.the-variants.{At, Nothing}
-use Rattle.tables.proofs.Tested.{both-left, both-right, all, pairs, all-at}
+use Rattle.tables.proofs.Tested.{all, pairs, all-at}
 use Rattle.columns.specs.Columns.{columnNames, columnNamed}
 
 abbrev pub differ : List ℕ → List ℕ → Bool

@@ -2,7 +2,7 @@
 use mathlib.Core.Path.{_≡_, refl, sym, ap, _∙_}
 use mathlib.Core.Bool.{Bool, true, false, not}
 use mathlib.Core.List.{List, [], _∷_, map}
-use Prim.Native.Nat.{ℕ, suc, _+_, _-_, _≤_, _<_}
+use Prim.Native.Nat.{ℕ, _+_, _-_, _≤_, _<_}
 use native.Mathlib.Omega.{arith}
 use lib.Dec.{eqb}
 use lib.ListN.{length, getD, take, List·getD-map}
@@ -15,10 +15,12 @@ use Rattle.letters.specs.Same.{sameRaised}
 use Rattle.letters.proofs.SameLaws.{same-raised-true}
 use Rattle.rowcheck.specs.Check.{Row, nameIn}
 use Rattle.writer.specs.Rows.{rowAt, rowsFrom}
+use Rattle.writer.proofs.RowLaws.{row-before}
 use Rattle.tables.specs.declared.Place.{Place}
+use Rattle.tables.specs.Place.{valuePlace}
 use Rattle.confirmations.specs.declared.Said.{Said}
 use Rattle.confirmations.specs.declared.Heard.{Heard}
-use Rattle.confirmations.specs.Confirmations.{named, begins, valueAt}
+use Rattle.confirmations.specs.Confirmations.{named, begins}
 use Rattle.confirmations.specs.Heard.{saidOf, heardOf, saidWith, heardWith, telling}
 
 -- ---- two names
@@ -100,10 +102,10 @@ module _ (name : List ℕ) (a c : ℕ) (ea : a ≡ getD name 0 0) (ec : c ≡ ge
 
 -- a row that is passed over, and one that is not
 module _ (text : List ℕ) (row : Row) (was : Heard) (name : List ℕ) (en : name ≡ nameIn text row) where
-  row-passed : (a c : ℕ) (t : Bool) → a ≡ getD name 0 0 → c ≡ getD name 2 0 → t ≡ telling a c → not t ≡ true → was ≡ heardWith (nameIn text row) (valueAt row) was
-  row-passed a c t ea ec et h = quiet name a c ea ec t et h (valueAt row) was ∙ ap (λ (n : List ℕ). heardWith n (valueAt row) was) en
+  row-passed : (a c : ℕ) (t : Bool) → a ≡ getD name 0 0 → c ≡ getD name 2 0 → t ≡ telling a c → not t ≡ true → was ≡ heardWith (nameIn text row) (valuePlace row) was
+  row-passed a c t ea ec et h = quiet name a c ea ec t et h (valuePlace row) was ∙ ap (λ (n : List ℕ). heardWith n (valuePlace row) was) en
 
-  row-heard : (v : Place) (r : Heard) → v ≡ valueAt row → r ≡ heardWith name v was → r ≡ heardWith (nameIn text row) (valueAt row) was
+  row-heard : (v : Place) (r : Heard) → v ≡ valuePlace row → r ≡ heardWith name v was → r ≡ heardWith (nameIn text row) (valuePlace row) was
   row-heard v r ev er = er ∙ rw (en, ev) refl
 
 -- ---- the rows from the last to the first
@@ -113,19 +115,12 @@ no-rows text t first count h e =
     let z : count - count ≡ 0 = omega arith in
     e ∙ rw z refl
 
-row-before : (t : List ℕ) (first count i : ℕ) → 0 < i → i ≤ count
-    → rowsFrom t (first + (i - 1)) (count - (i - 1)) ≡ rowAt t (first + (i - 1)) ∷ rowsFrom t (first + i) (count - i)
-row-before t first count i h l =
-    let e : count - (i - 1) ≡ suc (count - i) = omega arith in
-    let f : suc (first + (i - 1)) ≡ first + i = omega arith in
-    rw (e, f) refl
-
-one-more : (text : List ℕ) (r : Row) (rs : List Row) → heardOf text (r ∷ rs) ≡ heardWith (nameIn text r) (valueAt r) (heardOf text rs)
+one-more : (text : List ℕ) (r : Row) (rs : List Row) → heardOf text (r ∷ rs) ≡ heardWith (nameIn text r) (valuePlace r) (heardOf text rs)
 unfolding heardOf heardWith saidWith
 one-more text r rs = refl
 
 row-on : (text t : List ℕ) (first count i : ℕ) (was : Heard) (row : Row) (now : Heard) → 0 < i → i ≤ count
-    → was ≡ heardOf text (rowsFrom t (first + i) (count - i)) → row ≡ rowAt t (first + (i - 1)) → now ≡ heardWith (nameIn text row) (valueAt row) was
+    → was ≡ heardOf text (rowsFrom t (first + i) (count - i)) → row ≡ rowAt t (first + (i - 1)) → now ≡ heardWith (nameIn text row) (valuePlace row) was
     → now ≡ heardOf text (rowsFrom t (first + (i - 1)) (count - (i - 1)))
 row-on text t first count i was row now h l ew er en =
     en
@@ -138,7 +133,7 @@ module _ (text t : List ℕ) (first count i : ℕ) (was : Heard) (row : Row) (na
       → was ≡ heardOf text (rowsFrom t (first + (i - 1)) (count - (i - 1)))
   row-silent a c b ea ec eb n = row-on text t first count i was row was h l ew er (row-passed text row was name en a c b ea ec eb n)
 
-  pub row-told : (v : Place) (r : Heard) → v ≡ valueAt row → r ≡ heardWith name v was → r ≡ heardOf text (rowsFrom t (first + (i - 1)) (count - (i - 1)))
+  pub row-told : (v : Place) (r : Heard) → v ≡ valuePlace row → r ≡ heardWith name v was → r ≡ heardOf text (rowsFrom t (first + (i - 1)) (count - (i - 1)))
   row-told v r ev e = row-on text t first count i was row r h l ew er (row-heard text row was name en v r ev e)
 
 pub all-rows : (text t : List ℕ) (first count i : ℕ) (h : Heard) → i ≤ 0 → h ≡ heardOf text (rowsFrom t (first + i) (count - i)) → h ≡ heardOf text (rowsFrom t first count)

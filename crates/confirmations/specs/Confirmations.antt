@@ -4,13 +4,13 @@ use mathlib.Core.Bool.{Bool, true, false, not}
 use mathlib.Core.List.{List, [], _∷_}
 use Prim.Native.Nat.{ℕ, _+_}
 use lib.Dec.{eqb}
-use lib.ListN.{length, getD, take}
+use lib.ListN.{length, take}
 use Rattle.text.specs.Pick.{pick, both, either}
 use Rattle.text.specs.Ascii.{ascii}
 use Rattle.text.specs.Space.{trimStart, trimmed, blank}
 use Rattle.letters.specs.Same.{sameRaised}
 use Rattle.rowcheck.specs.Check.{Row, nameIn}
-use Rattle.tables.specs.Place.{absent, stands, part, orElse}
+use Rattle.tables.specs.Place.{absent, stands, valuePlace, part, orElse}
 use Rattle.tables.specs.declared.Place.{Place}
 use Rattle.confirmations.specs.declared.Answer.{Answer}
 
@@ -35,14 +35,10 @@ named wanted name = sameRaised name wanted
 abbrev pub begins : List ℕ → List ℕ → Bool
 begins front name = sameRaised (take (length front) name) front
 
--- the place of a row's value
-abbrev pub valueAt : Row → Place
-valueAt r = stands (getD r 3 0) (getD r 4 0)
-
 -- the value of the record's first field whose name passes the test, absent where it has none
 abbrev pub valueWhere : (List ℕ → Bool) → List ℕ → List Row → Place
 valueWhere test text [] = absent
-valueWhere test text (r ∷ rs) = pick (test (nameIn text r)) (valueAt r) (valueWhere test text rs)
+valueWhere test text (r ∷ rs) = pick (test (nameIn text r)) (valuePlace r) (valueWhere test text rs)
 
 -- whether the record has a field whose name passes the test
 abbrev pub hasWhere : (List ℕ → Bool) → List ℕ → List Row → Bool

@@ -5,7 +5,7 @@ ghost use Prim.Native.Nat.{_+_, _*_, _≤_};
 ghost use lib.ListN.{length};
 ghost use Rattle.rowcheck.specs.Check.{nameIn};
 ghost use Rattle.writer.specs.Rows.{rowsFrom};
-ghost use Rattle.confirmations.specs.Confirmations.{begins, valueAt, says, dateAt, unanswered, attributed, stood, answersOf};
+ghost use Rattle.confirmations.specs.Confirmations.{begins, says, dateAt, unanswered, attributed, stood, answersOf};
 ghost use Rattle.confirmations.specs.Heard.{saidOf, heardOf, saidWith, heardWith, telling, answerBy, eqslBy, cardBy, answersBy};
 use tables::Place;
 use tables::places;
@@ -41,12 +41,6 @@ struct Heard {
     has_ag: bool,
     of_eqsl: bool,
     of_lotw: bool,
-}
-
-fn value_at(row: [u32; 5]) -> Place
-    ensures { λ r. ⌜ r ≡ valueAt row ⌝ }
-{
-    places::stands(row[3], row[4])
 }
 
 fn does_begin(name: &[u8], front: &[u8]) -> bool
@@ -154,7 +148,7 @@ fn heard_in(text: &[u8], table: &[u32], first: usize, count: usize) -> Heard
         if !is_telling(text::byte(name, 0), text::byte(name, 2)) {
             continue;
         }
-        heard = heard_with(name, value_at(row), heard);
+        heard = heard_with(name, places::value_place(row), heard);
     }
     heard
 }

@@ -3,31 +3,17 @@ use mathlib.Core.Path.{_≡_, refl, sym, ap, _∙_}
 use mathlib.Core.Bool.{Bool, true, false, not}
 use mathlib.Core.List.{List, [], _∷_}
 use Prim.Native.Nat.{ℕ, zero, suc, _+_, _-_, _*_, _≤_, _<_}
-use native.Mathlib.Numerals.{add-one}
 use native.Mathlib.Omega.{arith}
 use lib.ListN.{length, getD, take, drop, length-drop, drop-of-length-le}
-use lib.Seq.{drop-cons, take-all, take-nil, getD-drop, getD-take}
+use lib.Seq.{take-all, take-nil, getD-drop, getD-take}
 use lib.Dec.{eqb, leb, ltb}
 use borrow.Author.Tests.{not-true, not-false, le-leb, lt-leb, eq-eqb, ne-eqb}
-use Rattle.text.specs.Pick.{pick, both, within}
+use Rattle.text.specs.Pick.{pick, both}
 use Rattle.decimal.specs.Decimal.{allDigits}
 use Rattle.contacts.specs.Contacts.{isDate, isTime, sound, soundHead, soundTexts}
 use Rattle.contacts.specs.Lists.{numberAt, textAt, after, callAt, dateAt, timeAt, bandAt, modeAt, endAt, idAt, servicesAt, contactAt, fits, goodAt}
 
--- ---- digits
-module _ (s : List ℕ) (i : ℕ) (h : i < length s) (t : Bool) (e : t ≡ within (getD s i 0) 0x30 0x39) (q : allDigits (drop i s) ≡ allDigits s) where
-  split : allDigits (drop i s) ≡ both t (allDigits (drop (i + 1) s))
-  split = rw (drop-cons s i 0 h, add-one, e) refl
-
-  pub digits-stop : not t ≡ true → false ≡ allDigits s
-  digits-stop n = let z : t ≡ false = not-true t n in sym (rw z at split) ∙ q
-
-  pub digits-on : not t ≡ false → allDigits (drop (i + 1) s) ≡ allDigits s
-  digits-on n = let z : t ≡ true = not-false t n in sym (rw z at split) ∙ q
-
-pub digits-end : (s : List ℕ) (i : ℕ) → length s ≤ i → allDigits (drop i s) ≡ allDigits s → true ≡ allDigits s
-digits-end s i h q = rw (drop-of-length-le s h) at q
-
+-- ---- dates and times of day
 module _ (d : List ℕ) where
   pub no-date : (length d ≡ 8 → ⊥) → false ≡ isDate d
   unfolding isDate

@@ -3,9 +3,9 @@
 ghost use mathlib.Core.Path.{_≡_};
 ghost use Prim.Native.Nat.{ℕ, _+_, _*_, _≤_, _<_};
 ghost use lib.ListN.{length, getD};
-ghost use Rattle.decimal.specs.Decimal.{allDigits};
 ghost use Rattle.contacts.specs.Contacts.{plain, isDate, isTime, soundHead, soundTexts};
 ghost use Rattle.contacts.specs.Lists.{numberAt, textAt, after, endAt, idAt, goodAt, entriesFrom, listedAs, freshAgainst, Few};
+use decimal::all_digits;
 use refusals::LONGEST;
 use refusals::Refusal;
 
@@ -29,19 +29,6 @@ const ENTRIES: usize = 5;
 const LARGEST_ID: u64 = 9_223_372_036_854_775_807;
 
 const EVERY_SERVICE: u8 = 15;
-
-fn all_digits(s: &[u8]) -> bool
-    ensures { λ r. ⌜ r ≡ allDigits (now (s .entry)) ⌝ }
-{
-    let mut i = 0;
-    while i < s.len() {
-        if !text::inside(s[i], 0x30, 0x39) {
-            return false;
-        }
-        i += 1;
-    }
-    true
-}
 
 // UTF-8 that a length byte can count.
 fn is_plain(t: &[u8]) -> bool

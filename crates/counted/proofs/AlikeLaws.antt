@@ -11,6 +11,7 @@ use borrow.Author.Tests.{eqb-true, eq-eqb, ne-eqb, lt-ltb}
 use Rattle.text.specs.Pick.{pick, both}
 use Rattle.text.specs.Space.{trimmed}
 use Rattle.text.proofs.BoolLaws.{cases, never, both-left, both-right}
+use Rattle.text.proofs.Utf8Laws.{both-no}
 use Rattle.letters.specs.Capitals.{capitals}
 use Rattle.letters.specs.Same.{same, sameRaised}
 use Rattle.letters.proofs.SameLaws.{same-true, same-raised-true}
@@ -65,17 +66,13 @@ module _ (text : List ℕ) (r s : Row) where
     unfolding rowsTested
     same-key t e n et = rw (eq-eqb (getD r 0 0) (getD s 0 0) (sym eg ∙ e ∙ ef), ne-eqb (getD s 0 0) 5 (λ z. n (ef ∙ z))) et
 
-  both-false : (a : Bool) → both a false ≡ false
-  both-false true = refl
-  both-false false = refl
-
   both-yes : (a : Bool) → both a true ≡ a
   both-yes true = refl
   both-yes false = refl
 
   module _ (v p : ℕ) (t : Bool) (ep : p ≡ getD r 24 0) (et : t ≡ hasBit p v) where
     pub not-served : t ≡ false → false ≡ both (rowsTested text r s) (hasBit (getD r 24 0) v)
-    not-served n = rw (← ep, ← et, n) (sym (both-false (rowsTested text r s)))
+    not-served n = rw (← ep, ← et, n) (sym (both-no (rowsTested text r s)))
 
     pub served : (u : Bool) → t ≡ true → u ≡ rowsTested text r s → u ≡ both (rowsTested text r s) (hasBit (getD r 24 0) v)
     served u n eu = rw (← ep, ← et, n) (eu ∙ sym (both-yes (rowsTested text r s)))

@@ -2,17 +2,12 @@
 use mathlib.Core.Path.{sym, refl, _∙_}
 use denote.Ref.{now}
 use Rattle.text.proofs.Once.{Once, OnceWith}
-use Rattle.counted.proofs.number_in.Reads as number-in
-use Rattle.counted.proofs.number_in.Kinds as number-in-kinds
 use Rattle.counted.proofs.has_service.Reads as has-service
 use Rattle.counted.proofs.has_service.Kinds as has-service-kinds
 use Rattle.counted.proofs.is_seen.Reads as is-seen
 use Rattle.counted.proofs.is_seen.Kinds as is-seen-kinds
 use Rattle.counted.proofs.mark.Reads as mark
 use Rattle.counted.proofs.mark.Kinds as mark-kinds
-
-number-in-once : Once 0 number-in-kinds.ps number-in-kinds.r number-in.Post
-number-in-once κs a x y d e p q = p ∙ sym q
 
 has-service-once : Once 0 has-service-kinds.ps has-service-kinds.r has-service.Post
 has-service-once κs a x y d e p q = p ∙ sym q

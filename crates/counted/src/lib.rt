@@ -8,17 +8,10 @@ ghost use Rattle.plan.specs.Confirmed.{hasBit};
 ghost use Rattle.entries.specs.Row.{keyIn};
 ghost use Rattle.counted.specs.Counted.{keysTested, rowsTested, codeIn, seen, Marked, withServices, withHead, marked};
 use dedupe::Key;
+use entries::number_in;
 use tables::Place;
 
 const CONFIRMED: usize = 5;
-
-// The number in a column of a row.
-pub fn number_in(r: [u32; 28], column: usize) -> usize
-    requires { ⌜ column < 28 ⌝ }
-    ensures { λ x. ⌜ x ≡ getD r column 0 ⌝ }
-{
-    r[column] as usize
-}
 
 // Bit s of the byte.
 pub fn has_service(byte: u32, s: u32) -> bool

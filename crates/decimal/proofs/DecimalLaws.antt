@@ -1,6 +1,6 @@
 -- Laws of the digits of `specs/Decimal.antt`: what a loop over them asks. Assumes nothing.
 use mathlib.Core.Path.{_≡_, refl, sym, ap, _∙_}
-use mathlib.Core.Bool.{Bool, true, false}
+use mathlib.Core.Bool.{Bool, true, false, not}
 use Prim.Native.Nat.{ℕ, _+_, _-_, _*_, _/_, _^_, _≤_, _<_}
 use native.Mathlib.Nat.{le-refl, le-trans}
 use native.Mathlib.Numerals.{add-one}
@@ -8,13 +8,28 @@ use native.Mathlib.Omega.{arith}
 use mathlib.Core.List.{List, [], _∷_}
 use lib.ListN.{length, getD, drop, drop-of-length-le}
 use lib.Seq.{drop-cons}
-use borrow.Author.Tests.{le-leb, lt-leb, lt-ltb, le-ltb, eq-eqb, ne-eqb}
+use borrow.Author.Tests.{le-leb, lt-leb, lt-ltb, le-ltb, eq-eqb, ne-eqb, not-true, not-false}
+use Rattle.text.specs.Pick.{both, within}
 use Rattle.text.proofs.Utf8Laws.{both-no}
 use Rattle.decimal.specs.Decimal.{allDigits, number, digitsAfter, digitsOf}
 use Rattle.decimal.specs.declared.Unsigned.{Unsigned}
 use Rattle.decimal.specs.declared.Unsigned.the-variants.{Is, Not}
 
-grow : (n : ℕ) (ds : List ℕ) → n ≤ number n ds
+-- whether every byte is a digit, as far as byte i
+module _ (s : List ℕ) (i : ℕ) (h : i < length s) (t : Bool) (e : t ≡ within (getD s i 0) 0x30 0x39) (q : allDigits (drop i s) ≡ allDigits s) where
+  split : allDigits (drop i s) ≡ both t (allDigits (drop (i + 1) s))
+  split = rw (drop-cons s i 0 h, add-one, e) refl
+
+  pub digits-stop : not t ≡ true → false ≡ allDigits s
+  digits-stop n = let z : t ≡ false = not-true t n in sym (rw z at split) ∙ q
+
+  pub digits-on : not t ≡ false → allDigits (drop (i + 1) s) ≡ allDigits s
+  digits-on n = let z : t ≡ true = not-false t n in sym (rw z at split) ∙ q
+
+pub digits-end : (s : List ℕ) (i : ℕ) → length s ≤ i → allDigits (drop i s) ≡ allDigits s → true ≡ allDigits s
+digits-end s i h q = rw (drop-of-length-le s h) at q
+
+pub grow : (n : ℕ) (ds : List ℕ) → n ≤ number n ds
 grow n [] = le-refl n
 grow n (d ∷ ds) = le-trans (omega arith) (grow (n * 10 + (d - 0x30)) ds)
 

@@ -1,7 +1,7 @@
 // Numbers in decimal digits, as Rust's `parse` reads them.
 ghost use mathlib.Core.Path.{_≡_};
 ghost use lib.ListN.{drop};
-ghost use Rattle.decimal.specs.Decimal.{digitsAfter, digitsOf, unsignedOf, aboveZero, belowZero, signedOf};
+ghost use Rattle.decimal.specs.Decimal.{allDigits, digitsAfter, digitsOf, unsignedOf, aboveZero, belowZero, signedOf};
 
 pub enum Unsigned {
     Is(u64),
@@ -12,6 +12,20 @@ pub enum Unsigned {
 pub enum Signed {
     Of { negative: bool, size: u64 },
     Bad,
+}
+
+// Every byte a digit.
+pub fn all_digits(s: &[u8]) -> bool
+    ensures { λ r. ⌜ r ≡ allDigits (now (s .entry)) ⌝ }
+{
+    let mut i = 0;
+    while i < s.len() {
+        if !text::inside(s[i], 0x30, 0x39) {
+            return false;
+        }
+        i += 1;
+    }
+    true
 }
 
 // Digits alone, at least one.

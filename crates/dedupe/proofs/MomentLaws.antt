@@ -11,7 +11,10 @@ use borrow.Author.Tests.{leb-true, le-leb, lt-leb, ne-eqb}
 use Rattle.text.specs.Pick.{pick, both, within}
 use Rattle.text.specs.Space.{space1, space2, space3, space80, spaceLen, spaceBack, width, trimStart, trimEnd, trimmed}
 use Rattle.text.specs.Walk.{lead}
+use Rattle.text.proofs.BoolLaws.{both-left, both-right}
+use Rattle.text.proofs.Utf8Laws.{both-no}
 use Rattle.letters.specs.Capitals.{raised, capitals}
+use Rattle.letters.proofs.SpaceLaws.{trim-capitals}
 use Rattle.decimal.specs.Decimal.{allDigits, number, digitsAfter, digitsOf}
 use Rattle.decimal.specs.declared.Unsigned.{Unsigned}
 use Rattle.decimal.specs.declared.Unsigned.the-variants.{Is, Not}
@@ -20,16 +23,11 @@ use Rattle.tables.specs.Bands.{bands, bandNames}
 use Rattle.tables.specs.Modes.{modes, modeNames}
 use Rattle.tables.specs.Place.{place, part, value, orEmpty, bytes}
 use Rattle.tables.specs.declared.Place.{Place}
-use Rattle.tables.proofs.Tested.{both-left, both-right, all}
-use Rattle.normalize.proofs.TrimLaws.{trim-capitals}
+use Rattle.tables.proofs.Tested.{all}
 use Rattle.times.specs.Moments.{dateOf, clockOf, momentBy, momentOf}
 use Rattle.times.specs.declared.Moment.{Moment}
 
 -- ---- digits have no case
-both-no : (t : Bool) → both t false ≡ false
-both-no true = refl
-both-no false = refl
-
 raised-small : (d : ℕ) → leb 0x61 d ≡ false → raised d ≡ d
 unfolding raised
 raised-small d e = rw e refl

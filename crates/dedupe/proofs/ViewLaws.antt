@@ -1,11 +1,10 @@
 -- What a test looks at is what a place stands for; and the tests on keys, one text after the other. Assumes nothing.
-use mathlib.Core.Path.{_≡_, refl, sym, ap, _∙_}
+use mathlib.Core.Path.{_≡_, refl, sym, ap}
 use mathlib.Core.Bool.{Bool, true, false}
-use mathlib.Core.List.{List, [], _∷_, _++_}
+use mathlib.Core.List.{List, [], _∷_}
 use Prim.Native.Nat.{ℕ, zero, suc, _≤_}
 use native.Mathlib.Omega.{arith}
 use lib.ListN.{length, take, drop}
-use lib.Seq.{take-take, take-append-seam}
 use lib.Dec.{eqb, leb}
 use lib.IntN.{ℤ}
 use mir.Syntax.{w64}
@@ -14,17 +13,19 @@ use mir.ValLaws.{toZ-ofZ}
 use borrow.Author.Tests.{leb-true, ne-eqb}
 use Rattle.text.specs.Pick.{pick, both, either}
 use Rattle.text.specs.Space.{trimmed}
+use Rattle.text.proofs.BoolLaws.{both-left, both-right, either-none}
 use Rattle.letters.specs.Capitals.{capitals}
 use Rattle.letters.specs.Same.{same, sameRaised}
 use Rattle.letters.proofs.CapitalLaws.{capitals-twice}
+use Rattle.letters.proofs.SpaceLaws.{trim-capitals}
 use Rattle.tables.specs.Table.{entry}
 use Rattle.tables.specs.Bands.{bands, bandNames}
 use Rattle.tables.specs.Modes.{modes, modeNames}
-use Rattle.tables.specs.Place.{place, inText, part, value, orEmpty, bytes, spelled, nameOf}
+use Rattle.tables.specs.Place.{place, inText, part, value, orEmpty, bytes, nameOf}
 use Rattle.tables.specs.declared.Place.{Place}
 use Rattle.tables.specs.declared.Name.{Name}
-use Rattle.tables.proofs.Tested.{both-left, both-right, all}
-use Rattle.normalize.proofs.TrimLaws.{trim-capitals}
+use Rattle.tables.proofs.Tested.{all}
+use Rattle.tables.proofs.EntryLaws.{spelled-out}
 use Rattle.times.specs.Window.{isWithin}
 use Rattle.times.specs.declared.Moment.{Moment}
 use Rattle.dedupe.specs.Keys.{inLog, inFile, naturalKey, unmatched, duplicate}
@@ -45,9 +46,6 @@ short-bands = refl
 short-modes : all (λ (x : List ℕ). leb (length x) 12) modeNames ≡ true
 unfolding modeNames modes
 short-modes = refl
-
-spelled-out : (x : List ℕ) → length x ≤ 12 → take (spelled x .len) (spelled x .bytes) ≡ x
-spelled-out x h = take-take (length x) 12 (x ++ (0 ∷ 0 ∷ 0 ∷ 0 ∷ 0 ∷ 0 ∷ 0 ∷ 0 ∷ 0 ∷ 0 ∷ 0 ∷ 0 ∷ [])) h ∙ take-append-seam x _
 
 -- ---- by the kind of a place
 short-at : (k a n : ℕ) → nameOf (place k a n) .len ≤ 12
@@ -82,22 +80,15 @@ module _ (t r : Bool) where
       by true = refl
       by false = refl
 
-  either-false : either r false ≡ r
-  either-false = by r
-    where
-      by : (r : Bool) → either r false ≡ r
-      by true = refl
-      by false = refl
-
   pub view-at : (text : List ℕ) (k a n : ℕ) → viewed t r text (place k a n) (take (nameOf (place k a n) .len) (nameOf (place k a n) .bytes)) ≡ view t r (bytes text (place k a n))
   unfolding nameOf value part
-  view-at text zero a n = rw either-false refl
-  view-at text (suc zero) a n = rw either-false refl
+  view-at text zero a n = rw (either-none r) refl
+  view-at text (suc zero) a n = rw (either-none r) refl
   view-at text (suc (suc zero)) a n = rw either-true (sym (view-capitals (take n (drop a text))))
   view-at text (suc (suc (suc zero))) a n =
-      rw (either-false, spelled-out (orEmpty (entry bandNames a)) (entry-short bandNames short-bands a)) refl
+      rw (either-none r, spelled-out (orEmpty (entry bandNames a)) (entry-short bandNames short-bands a)) refl
   view-at text (suc (suc (suc (suc zero)))) a n =
-      rw (either-false, spelled-out (orEmpty (entry modeNames a)) (entry-short modeNames short-modes a)) refl
+      rw (either-none r, spelled-out (orEmpty (entry modeNames a)) (entry-short modeNames short-modes a)) refl
   view-at text (suc (suc (suc (suc (suc k))))) a n =
       rw (
         ne-eqb (suc (suc (suc (suc (suc k))))) 1 (λ e. omega arith),

@@ -21,7 +21,7 @@ rows-many : (text : List ℕ) (n first : ℕ) (rs : List (List Field)) → lengt
 rows-many text n first [] = refl
 rows-many text n first (r ∷ rs) = ap suc (rows-many text (suc n) (first + length r) rs)
 
-entries-many : (text : List ℕ) (n : ℕ) (rs : List (List Field)) → length (entriesFrom text n rs) ≡ length rs
+pub entries-many : (text : List ℕ) (n : ℕ) (rs : List (List Field)) → length (entriesFrom text n rs) ≡ length rs
 entries-many text n [] = refl
 entries-many text n (r ∷ rs) = ap suc (entries-many text (suc n) rs)
 

@@ -9,15 +9,16 @@ use borrow.Author.Tests.{ne-eqb, not-true}
 use Rattle.text.specs.Pick.{both}
 use Rattle.text.specs.Space.{space1, space2, space3, space80, spaceLen, spaceBack, width, trimStart, trimEnd, trimmed, blank}
 use Rattle.text.specs.Walk.{lead}
+use Rattle.text.proofs.BoolLaws.{both-left, both-right}
 use Rattle.letters.specs.Capitals.{raised, capitals}
+use Rattle.letters.proofs.SpaceLaws.{trim-capitals, blank-capitals}
 use Rattle.tables.specs.Table.{entry}
 use Rattle.tables.specs.Bands.{bands, bandNames}
 use Rattle.tables.specs.Modes.{modes, modeNames}
 use Rattle.tables.specs.Place.{place, part, value, orEmpty, bytes, nameOf}
 use Rattle.tables.specs.declared.Name.{Name}
 use Rattle.tables.specs.declared.Place.{Place}
-use Rattle.tables.proofs.Tested.{both-left, both-right, all}
-use Rattle.normalize.proofs.TrimLaws.{trim-capitals, blank-capitals}
+use Rattle.tables.proofs.Tested.{all}
 use Rattle.dedupe.specs.Views.{cased}
 use Rattle.dedupe.proofs.ViewLaws.{view-at}
 use Rattle.dedupe.proofs.MomentLaws.{all-raised}

@@ -1,24 +1,25 @@
 -- The row of a record, and what it says of the record as the plan's definition sees it. Assumes nothing.
 use mathlib.Core.Path.{_≡_, refl, _∙_}
-use mathlib.Core.Bool.{Bool, true, false}
+use mathlib.Core.Bool.{Bool}
 use mathlib.Core.List.{List, [], _∷_}
 use Prim.Native.Nat.{ℕ, _+_, _*_, _≤_}
 use native.Mathlib.Omega.{arith}
 use lib.ListN.{length, getD}
 use Rattle.text.specs.Pick.{either}
+use Rattle.text.proofs.BoolLaws.{either-none, either-either}
 use Rattle.rowcheck.specs.Check
 use Rattle.tables.specs.Place.{bytes}
 use Rattle.times.specs.Moments.{momentOf}
 use Rattle.times.specs.declared.Moment.{Moment}
-use Rattle.times.specs.declared.Moment.the-variants.{At, Never}
 use Rattle.columns.specs.Columns
 use Rattle.model.specs.Contact.{placeOf, columnText}
 use Rattle.model.specs.Normal.{normalQso}
 use Rattle.model.specs.declared.Answer as model-answer
 use Rattle.model.specs.declared.Qso.{Qso}
 use Rattle.mapping.specs.Mapping.{mapped}
-use Rattle.index.specs.Rows.{low, high, joined, hasMoment, secondsIn, momentFrom}
+use Rattle.index.specs.Rows.{low, high, hasMoment, secondsIn}
 use Rattle.writer.specs.Rows.{rowsFrom}
+use Rattle.search.proofs.FindLaws.{moment-back}
 use Rattle.confirmations.specs.Confirmations.{answersOf, unanswered}
 use Rattle.confirmations.specs.declared.Answer.{Answer}
 use Rattle.usable.specs.Reasons.{reasonIn}
@@ -30,20 +31,12 @@ use Rattle.entries.specs.Walked.{judgedAs, judgedOf}
 use Rattle.entries.specs.declared.Judged.{Judged}
 
 -- ---- four answers
-either-none : (a : Bool) → either a false ≡ a
-either-none true = refl
-either-none false = refl
-
-either-over : (a b c : Bool) → either (either a b) c ≡ either a (either b c)
-either-over true b c = refl
-either-over false b c = refl
-
 pub bears-four : (given : List Answer) (p q r s x y z : Bool) → length given ≡ 4
     → p ≡ getD given 0 unanswered .present → q ≡ getD given 1 unanswered .present → x ≡ either p q
     → r ≡ getD given 2 unanswered .present → s ≡ getD given 3 unanswered .present → y ≡ either r s
     → z ≡ either x y → z ≡ bearsAny given
 bears-four (a ∷ b ∷ c ∷ d ∷ []) p q r s x y z l ep eq ex er es ey ez =
-    rw (ez, ex, ey, ep, eq, er, es) (either-over (a .present) (b .present) (either (c .present) (d .present)) ∙ rw (either-none (d .present)) refl)
+    rw (ez, ex, ey, ep, eq, er, es) (either-either (a .present) (b .present) (either (c .present) (d .present)) ∙ rw (either-none (d .present)) refl)
 bears-four [] p q r s x y z l ep eq ex er es ey ez = absurd (omega arith)
 bears-four (a ∷ []) p q r s x y z l ep eq ex er es ey ez = absurd (omega arith)
 bears-four (a ∷ b ∷ []) p q r s x y z l ep eq ex er es ey ez = absurd (omega arith)
@@ -72,15 +65,6 @@ unfolding entryRow
 record-row text rows a q t first count r ea eq et er = rw (← ea, ← eq, ← et) er
 
 -- ---- what it says
-halves : (x : ℕ) → joined (low x) (high x) ≡ x
-unfolding low high
-halves x = omega arith
-
-moment-back : (m : Moment) → momentFrom (hasMoment m) (joined (low (secondsIn m)) (high (secondsIn m))) ≡ m
-unfolding momentFrom hasMoment secondsIn
-moment-back (At x) = rw (halves x) refl
-moment-back Never = refl
-
 module _ (text : List ℕ) (rows : List Check.Row) (first count : ℕ) where
   says-with : (q : Qso) (inexact : Bool) → Says text (rowWith text rows q inexact first count) (entryWith text rows q inexact)
   unfolding rowWith rowOf entryWith

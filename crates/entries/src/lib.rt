@@ -2,7 +2,7 @@
 // reading left, so a record's rows lie together and each record has one.
 ghost use mathlib.Core.Path.{_≡_};
 ghost use Prim.Native.Nat.{_+_, _*_, _-_, _/_, _≤_, _<_};
-ghost use lib.ListN.{length, take, drop};
+ghost use lib.ListN.{length, getD, take, drop};
 ghost use lib.Seq.{sets};
 ghost use Rattle.tables.specs.Place.{part};
 ghost use Rattle.adif.specs.Reading.{readText};
@@ -22,6 +22,14 @@ use model::Qso;
 use refusals::Verdict;
 use tables::Place;
 use tables::places;
+
+// The number in a column of a row.
+pub fn number_in(row: [u32; 28], column: usize) -> usize
+    requires { ⌜ column < 28 ⌝ }
+    ensures { λ r. ⌜ r ≡ getD row column 0 ⌝ }
+{
+    row[column] as usize
+}
 
 // The code of a record's call, mode and band, and why it is unusable, or 0.
 struct Judged {

@@ -1,15 +1,14 @@
 -- The examples hold: each is computed. That a day which is none has no moment goes by what its time of day is. Assumes nothing.
 use mathlib.Core.Path.{_≡_, refl}
-use mathlib.Core.Bool.{Bool, true, false}
 use mathlib.Core.List.{List}
 use Prim.Native.Nat.{ℕ}
 use Rattle.text.specs.Ascii.{ascii}
-use Rattle.text.specs.Pick.{both}
 use Rattle.text.specs.Run.{run}
 use Rattle.text.specs.Walk.{lead, ends}
 use Rattle.text.specs.Find.{other}
 use Rattle.text.specs.Space.{space1, space2, space3, space80, spaceLen, spaceBack, width, trimStart, trimEnd, trimmed}
 use Rattle.text.specs.Utf8.{charLen, longChar, second3, second4, validUpTo}
+use Rattle.text.proofs.Utf8Laws.{both-no}
 use Rattle.letters.specs.Capitals.{raised}
 use Rattle.letters.specs.Same.{sameRaised}
 use Rattle.decimal.specs.Decimal.{digitsAfter, digitsOf, leads, unsignedOf}
@@ -36,10 +35,6 @@ no-moment-at : (time : List ℕ) → momentOf (ascii "20260231") time ≡ Never
 unfolding momentOf dateOf digitsOf digitsAfter trimmed trimStart trimEnd lead spaceLen spaceBack width space1 space2 space3 space80
 no-moment-at time = no-moment-by (clockOf (trimmed time))
 
-both-false : (t : Bool) → both t false ≡ false
-both-false true = refl
-both-false false = refl
-
 pub proved : Examples
 unfolding lead ends other run space1 space2 space3 space80 spaceLen spaceBack width trimStart trimEnd trimmed charLen longChar second3 second4 validUpTo raised sameRaised digitsAfter digitsOf leads unsignedOf ofText kindOf colonAt nameAt nameLength namePlace nameOf lengthAfter valueOf byKind tagOf closedAt openAt tagAt rowName rowValue readTags readText bands bandNames bandFor value leap yearDays monthDays daysBeforeYear daysBeforeMonth isDay dayNumber dateOf clockOf isClock secondsOf momentAt momentOf isWithin duplicate
 proved =
@@ -59,5 +54,5 @@ proved =
       leap-noon = refl;
       no-day = refl;
       no-moment = no-moment-at;
-      never-a-duplicate = λ call mode band call' mode' band' time other window. rw (no-moment-at time) (both-false (naturalKey call mode band call' mode' band'));
+      never-a-duplicate = λ call mode band call' mode' band' time other window. rw (no-moment-at time) (both-no (naturalKey call mode band call' mode' band'));
     }

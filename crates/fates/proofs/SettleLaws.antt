@@ -2,10 +2,10 @@
 use mathlib.Core.Path.{_≡_, refl, sym, ap, _∙_}
 use mathlib.Core.Bool.{Bool, true, false}
 use mathlib.Core.List.{List, [], _∷_, _++_}
-use Prim.Native.Nat.{ℕ, zero, suc, _+_, _≤_, _<_}
+use Prim.Native.Nat.{ℕ, _+_, _≤_, _<_}
 use native.Mathlib.Numerals.{add-one}
 use native.Mathlib.Omega.{arith}
-use lib.ListN.{length, getD, drop, length-append, List·getD-append}
+use lib.ListN.{length, getD, drop, List·getD-append}
 use lib.Seq.{getD-at}
 use lib.Dec.{eqb, ltb}
 use lib.IntN.{ℤ}
@@ -25,6 +25,7 @@ use Rattle.search.specs.Search.{near}
 use Rattle.search.proofs.FindLaws.{near-within}
 use Rattle.plan.specs.Entry.{Entry, noEntry}
 use Rattle.plan.specs.Fates.{fateOf, bearsAny, repeats, repeated, fateAt, fatesTo}
+use Rattle.plan.proofs.FateLaws.{fates-many}
 use Rattle.entries.specs.Row.{Row, callIn, modeIn, bandIn, momentIn, oneIf}
 use Rattle.entries.specs.Filled.{Says, Said, Bare}
 use Rattle.infile.specs.Infile.{alike, repeatedIn, codeIn, Chained}
@@ -68,18 +69,13 @@ module _ (text : List ℕ) (n : ℕ) (es : List Entry) (rows : List Row) (S : Sa
 
 -- ---- the fates so far
 module _ (w : ℤ) (download : Bool) (es : List Entry) (hits : List ℕ) where
-  fates-length : (k : ℕ) → length (fatesTo w download es hits k) ≡ k
-  unfolding fatesTo
-  fates-length zero = refl
-  fates-length (suc k) = simp length-append (omega (arith, fates-length k))
-
   fates-old : (k j : ℕ) → j < k → getD (fatesTo w download es hits (k + 1)) j 0 ≡ getD (fatesTo w download es hits k) j 0
   unfolding fatesTo
-  fates-old k j h = rw add-one (List·getD-append (fatesTo w download es hits k) _ 0 j (omega (arith, fates-length k)))
+  fates-old k j h = rw add-one (List·getD-append (fatesTo w download es hits k) _ 0 j (omega (arith, fates-many w download es hits k)))
 
   fates-new : (k : ℕ) → getD (fatesTo w download es hits (k + 1)) k 0 ≡ fateAt w download es hits (λ j. getD (fatesTo w download es hits k) j 0) k
   unfolding fatesTo
-  fates-new k = rw add-one (getD-at (fatesTo w download es hits k) _ [] 0 k (fates-length k))
+  fates-new k = rw add-one (getD-at (fatesTo w download es hits k) _ [] 0 k (fates-many w download es hits k))
 
 -- ---- after k records
 pub record Done (text : List ℕ) (limit : ℕ) (download : Bool) (n k : ℕ) (rows₀ rows : List Row) : Type 0 where

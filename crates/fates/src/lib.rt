@@ -43,9 +43,9 @@ fn first_fate(row: [u32; 28], download: bool) -> u32
     ensures { λ r. ⌜ r ≡ fateOf (getD row 1 0) (ltb 0 (getD row 23 0)) (ltb 0 (getD row 22 0)) download false ⌝ }
 {
     fate_of(
-        infile::number_in(row, 1),
-        infile::number_in(row, 23) > 0,
-        infile::number_in(row, 22) > 0,
+        entries::number_in(row, 1),
+        entries::number_in(row, 23) > 0,
+        entries::number_in(row, 22) > 0,
         download,
         false,
     )
@@ -115,7 +115,7 @@ fn settle_one(text: &[u8], limit: u64, download: bool, rows: &mut [[u32; 28]], n
     let fate = fate_in(text, rows, n, k, limit, download);
     put_fate(rows, k, fate);
     if fate == 1 {
-        let b = infile::number_in(rows[k], 4) % n;
+        let b = entries::number_in(rows[k], 4) % n;
         infile::push(rows, b, k);
     }
 }

@@ -8,8 +8,7 @@ use lib.Seq.{sets, length-sets}
 use Rattle.letters.specs.Capitals.{raised, capitals}
 use Rattle.decimal.specs.Digits.{digits, decimal}
 use Rattle.output.specs.Put.{Put, Room}
-use Rattle.output.proofs.PutLaws.{sets-append, Half, half-on, half-end, put-then, room-first, room-next}
-use Rattle.output.proofs.DigitLaws.{few-digits}
+use Rattle.output.proofs.PutLaws.{sets-append, Half, half-on, half-end, room-first, room-second, room-third, put-three}
 use Rattle.fields.specs.Written.{fieldText}
 use Rattle.fields.specs.Parts.{fieldAs, openText, lengthText, valueText}
 
@@ -28,18 +27,6 @@ room-raised l at s h = rw (length-map s raised) at h
 pub field-parts : (name value : List ℕ) → fieldText (fieldAs name value) ≡ openText name ++ (lengthText (length value) ++ valueText value)
 unfolding fieldText
 field-parts name value = simp append-assoc
-
--- ---- three parts put one after the other
-module _ (was : List ℕ) (at : ℕ) (a b c : List ℕ) (h : Room was at (a ++ (b ++ c))) (q : ℕ) (mid : List ℕ) (p : Put q was mid at a) where
-  pub room-second : Room mid q b
-  room-second = room-first mid q b c (room-next was at a (b ++ c) h q mid p)
-
-  pub room-third : (q′ : ℕ) (mid′ : List ℕ) → Put q′ mid mid′ q b → Room mid′ q′ c
-  room-third q′ mid′ p′ = room-next mid q b c (room-next was at a (b ++ c) h q mid p) q′ mid′ p′
-
-pub put-three : (was : List ℕ) (at : ℕ) (a b c : List ℕ) (q : ℕ) (mid : List ℕ) (q′ : ℕ) (mid′ : List ℕ) (r : ℕ) (now : List ℕ)
-    → Put q was mid at a → Put q′ mid mid′ q b → Put r mid′ now q′ c → Put r was now at (a ++ (b ++ c))
-put-three was at a b c q mid q′ mid′ r now x y z = put-then r q was mid now at a (b ++ c) x (put-then r q′ mid mid′ now q b c y z)
 
 -- ---- a field
 module _ (name value : List ℕ) where
@@ -92,7 +79,3 @@ pub field-size : (name value : List ℕ) (d : ℕ) → d ≡ length (decimal (le
 unfolding fieldText
 field-size name value d e =
     simp (length-append, length-map) (omega arith)
-
-pub few : (n : ℕ) → length (decimal n) ≤ 20
-unfolding decimal
-few n = few-digits 20 n

@@ -60,7 +60,7 @@ module _ (was : List ℕ) (f : Written) (ef : f ≡ fitted (Bytes 45) (length wa
     journal-done = exact-done was journalHeader f ef m em
 
 -- a size that stops at 16,777,217 is refused as the size itself
-capped-fit : (k room : ℕ) → fitted (Bytes (capped k)) room ≡ fitted (Bytes k) room
+pub capped-fit : (k room : ℕ) → fitted (Bytes (capped k)) room ≡ fitted (Bytes k) room
 unfolding fitted
 capped-fit k room = by (leb k 16777216) refl
   where

@@ -10,7 +10,6 @@ use Rattle.fields.specs.Written.{fieldText, fieldsText, endOfHeader}
 use Rattle.fields.specs.Parts.{fieldAs}
 use Rattle.output.specs.Put.{Put, Room}
 use Rattle.output.proofs.PutLaws.{put-none, put-then, room-first, room-next}
-use Rattle.fields.proofs.FieldLaws.{room-second, room-third, put-three}
 use Rattle.headers.specs.Headers.{adifVersion, programId, programVersion, createdTimestamp, rigflow, exportHeader}
 
 -- ---- an export's header

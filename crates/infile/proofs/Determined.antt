@@ -5,8 +5,6 @@ use denote.Triple.Clauses.{AtExit}
 use denote.Ref.{now}
 use borrow.Fn.Kinds.{Dens, resT, endedOf}
 use Rattle.text.proofs.Once.{Once}
-use Rattle.infile.proofs.number_in.Reads as number-in
-use Rattle.infile.proofs.number_in.Kinds as number-in-kinds
 use Rattle.infile.proofs.key_in.Reads as key-in
 use Rattle.infile.proofs.key_in.Kinds as key-in-kinds
 use Rattle.infile.proofs.moment_in.Reads as moment-in
@@ -15,9 +13,6 @@ use Rattle.infile.proofs.is_repeated.Reads as is-repeated
 use Rattle.infile.proofs.is_repeated.Kinds as is-repeated-kinds
 use Rattle.infile.proofs.push.Reads as push
 use Rattle.infile.proofs.push.Kinds as push-kinds
-
-number-in-once : Once 0 number-in-kinds.ps number-in-kinds.r number-in.Post
-number-in-once κs a x y d e p q = p ∙ sym q
 
 key-in-once : Once 0 key-in-kinds.ps key-in-kinds.r key-in.Post
 key-in-once κs a x y d e p q = p ∙ sym q

@@ -11,16 +11,9 @@ ghost use Rattle.chain.specs.Chain.{col};
 ghost use Rattle.entries.specs.Row.{keyIn, momentIn};
 ghost use Rattle.infile.specs.Infile.{alike, repeatedIn, Chained, withHead, withNext, pushed};
 use dedupe::Key;
+use entries::number_in;
 use tables::Place;
 use times::Moment;
-
-// The number in a column of a row.
-pub fn number_in(row: [u32; 28], column: usize) -> usize
-    requires { ⌜ column < 28 ⌝ }
-    ensures { λ r. ⌜ r ≡ getD row column 0 ⌝ }
-{
-    row[column] as usize
-}
 
 fn place_of(kind: u32, start: u32, len: u32) -> Place
     ensures { λ r. ⌜ r ≡ place kind start len ⌝ }

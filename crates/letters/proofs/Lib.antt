@@ -1,4 +1,5 @@
 pub mod CapitalLaws
 pub mod SameLaws
 pub mod OrderLaws
+pub mod SpaceLaws
 pub mod Determined

@@ -11,7 +11,7 @@ use borrow.Author.Tests.{not-true, not-false, le-leb, lt-leb, leb-true, lt-ltb, 
 use Rattle.text.specs.Pick.{pick, both}
 use Rattle.text.proofs.BoolLaws.{both-left, both-right}
 use Rattle.output.specs.Put.{Put, Room}
-use Rattle.output.proofs.PutLaws.{put-none, put-then, put-length, room-first, room-next}
+use Rattle.output.proofs.PutLaws.{put-none, put-then, put-length, room-first, room-next, room-second, room-third, put-three}
 use Rattle.refusals.specs.declared.Refusal.{Refusal}
 use Rattle.refusals.specs.declared.Refusal.the-variants.{TooLong, ShortOutput, MalformedList, IdsNotRising}
 use Rattle.contacts.specs.Contacts.{Contact, contact, idOf, sound, soundHead, soundTexts, bytesOf, counted, bodyText, entryText, entriesText, listText}
@@ -41,22 +41,6 @@ module _ (was : List ℕ) (at k n : ℕ) (h : k ≡ 0 → ⊥) where
   pub number-put : (q r : ℕ) (mid now : List ℕ) → Put q was mid at (bytesOf (k - 1) (n / 256)) → Put r mid now q (n % 256 ∷ []) → Put r was now at (bytesOf k n)
   number-put q r mid now p s = rw (more k n h) (put-then r q was mid now at (bytesOf (k - 1) (n / 256)) (n % 256 ∷ []) p s)
 
--- ---- three parts
-module _ (was : List ℕ) (at : ℕ) (a b c : List ℕ) (h : Room was at (a ++ (b ++ c))) where
-  pub three-first : Room was at a
-  three-first = room-first was at a (b ++ c) h
-
-  module _ (q : ℕ) (mid : List ℕ) (p : Put q was mid at a) where
-    pub three-second : Room mid q b
-    three-second = room-first mid q b c (room-next was at a (b ++ c) h q mid p)
-
-    pub three-third : (q′ : ℕ) (mid′ : List ℕ) → Put q′ mid mid′ q b → Room mid′ q′ c
-    three-third q′ mid′ p′ = room-next mid q b c (room-next was at a (b ++ c) h q mid p) q′ mid′ p′
-
-pub three-put : (was : List ℕ) (at : ℕ) (a b c : List ℕ) (q : ℕ) (mid : List ℕ) (q′ : ℕ) (mid′ : List ℕ) (r : ℕ) (now : List ℕ)
-    → Put q was mid at a → Put q′ mid mid′ q b → Put r mid′ now q′ c → Put r was now at (a ++ (b ++ c))
-three-put was at a b c q mid q′ mid′ r now x y z = put-then r q was mid now at a (b ++ c) x (put-then r q′ mid mid′ now q b c y z)
-
 -- ---- the texts
 module _ (call date time band mode : List ℕ) where
   abbrev Texts : List ℕ
@@ -64,19 +48,19 @@ module _ (call date time band mode : List ℕ) where
 
   pub texts-first : (was : List ℕ) (at : ℕ) → Room was at Texts → Room was at (counted call)
   unfolding textsText
-  texts-first was at h = three-first was at (counted call) (pairText date time) (pairText band mode) h
+  texts-first was at h = room-first was at (counted call) (pairText date time ++ pairText band mode) h
 
   pub texts-second : (was : List ℕ) (at : ℕ) → Room was at Texts → (q : ℕ) (mid : List ℕ) → Put q was mid at (counted call) → Room mid q (pairText date time)
   unfolding textsText
-  texts-second was at h q mid p = three-second was at (counted call) (pairText date time) (pairText band mode) h q mid p
+  texts-second was at h q mid p = room-second was at (counted call) (pairText date time) (pairText band mode) h q mid p
 
   pub texts-third : (was : List ℕ) (at : ℕ) → Room was at Texts → (q : ℕ) (mid : List ℕ) → Put q was mid at (counted call) → (q′ : ℕ) (mid′ : List ℕ) → Put q′ mid mid′ q (pairText date time) → Room mid′ q′ (pairText band mode)
   unfolding textsText
-  texts-third was at h q mid p q′ mid′ p′ = three-third was at (counted call) (pairText date time) (pairText band mode) h q mid p q′ mid′ p′
+  texts-third was at h q mid p q′ mid′ p′ = room-third was at (counted call) (pairText date time) (pairText band mode) h q mid p q′ mid′ p′
 
   pub texts-put : (was : List ℕ) (at q : ℕ) (mid : List ℕ) (q′ : ℕ) (mid′ : List ℕ) (r : ℕ) (now : List ℕ) → Put q was mid at (counted call) → Put q′ mid mid′ q (pairText date time) → Put r mid′ now q′ (pairText band mode) → Put r was now at Texts
   unfolding textsText
-  texts-put was at q mid q′ mid′ r now x y z = three-put was at (counted call) (pairText date time) (pairText band mode) q mid q′ mid′ r now x y z
+  texts-put was at q mid q′ mid′ r now x y z = put-three was at (counted call) (pairText date time) (pairText band mode) q mid q′ mid′ r now x y z
 
   -- ---- an entry
   module _ (id services : ℕ) where

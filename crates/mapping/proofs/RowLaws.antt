@@ -12,13 +12,14 @@ use Rattle.letters.specs.declared.Order.{Order}
 use Rattle.letters.specs.Same.{sameRaised}
 use Rattle.rowcheck.specs.Check.{Row, recordIn, nameIn, placed, sound, isLess}
 use Rattle.writer.specs.Rows.{rowAt, rowsFrom}
-use Rattle.tables.specs.Place.{absent}
+use Rattle.writer.proofs.RowLaws.{row-before}
+use Rattle.tables.specs.Place.{absent, valuePlace}
 use Rattle.tables.specs.declared.Found.{Found}
 use Rattle.tables.specs.declared.Found.the-variants.{At, Nothing}
 use Rattle.tables.specs.declared.Place.{Place}
 use Rattle.columns.specs.Columns.{columnNames, columnNamed}
 use Rattle.columns.proofs.LaidLaws.{no-column-filled, column-filled, column-below}
-use Rattle.mapping.specs.Mapping.{valuePlace, placeNamed, columnsOf, isRow, rises, goesOn, isRecord}
+use Rattle.mapping.specs.Mapping.{placeNamed, columnsOf, isRow, rises, goesOn, isRecord}
 
 -- ---- the columns
 pub no-rows : (text t : List ℕ) (first count : ℕ) (p : Place) → p ≡ absent → replicate 13 p ≡ columnsOf text (rowsFrom t (first + count) (count - count))
@@ -26,13 +27,6 @@ unfolding columnsOf columnNames
 no-rows text t first count p e =
     let z : count - count ≡ 0 = omega arith in
     rw (e, z) refl
-
-row-before : (t : List ℕ) (first count i : ℕ) → 0 < i → i ≤ count
-    → rowsFrom t (first + (i - 1)) (count - (i - 1)) ≡ rowAt t (first + (i - 1)) ∷ rowsFrom t (first + i) (count - i)
-row-before t first count i h l =
-    let e : count - (i - 1) ≡ suc (count - i) = omega arith in
-    let f : suc (first + (i - 1)) ≡ first + i = omega arith in
-    rw (e, f) refl
 
 module _ (text t : List ℕ) (first count i : ℕ) (h : 0 < i) (l : i ≤ count) (cs : List Place) (ec : cs ≡ columnsOf text (rowsFrom t (first + i) (count - i)))
     (row : Row) (er : row ≡ rowAt t (first + (i - 1))) (name : List ℕ) (en : name ≡ nameIn text row) (found : Found) (ef : found ≡ columnNamed name) where

@@ -17,7 +17,7 @@ use Rattle.mhz.specs.declared.Hz.the-variants.{Absent, Is, Outside}
 use Rattle.refusals.specs.declared.Refusal.the-variants.{TooLong, BadRow, InexactFrequency}
 use Rattle.rowcheck.specs.Check.{Row, recordIn, nameIn, placed, sound, isLess}
 use Rattle.writer.specs.Rows.{rowsFrom}
-use Rattle.tables.specs.Place.{absent, stands, part}
+use Rattle.tables.specs.Place.{absent, valuePlace, part}
 use Rattle.tables.specs.declared.Place.{Place}
 use Rattle.columns.specs.Columns.{columnNames, isColumn, freq, freqRx, dxcc}
 use Rattle.model.specs.Normal.{normalQso}
@@ -26,10 +26,6 @@ use Rattle.model.specs.declared.Frequency.{Frequency}
 use Rattle.model.specs.declared.Dxcc.{Dxcc}
 use Rattle.model.specs.declared.Qso.{Qso}
 use Rattle.model.specs.declared.Answer.{Answer}
-
--- the place of a row's value
-abbrev pub valuePlace : Row → Place
-valuePlace r = stands (getD r 3 0) (getD r 4 0)
 
 -- the place of the value of the field of that name
 abbrev pub placeNamed : List ℕ → List Row → List ℕ → Place

@@ -10,7 +10,7 @@ ghost use Rattle.mhz.specs.Reading.{readHertz};
 ghost use Rattle.rowcheck.specs.Check.{recordIn};
 ghost use Rattle.tables.specs.Place.{part};
 ghost use Rattle.writer.specs.Rows.{rowsFrom};
-ghost use Rattle.mapping.specs.Mapping.{valuePlace, columnsOf, isOutside, frequencyOf, dxccOf, dxccAt, qsoWith, answerWith, answerOver, mapped, isRow, rises, isRecord, mappedTo, withNormal, normalTo};
+ghost use Rattle.mapping.specs.Mapping.{columnsOf, isOutside, frequencyOf, dxccOf, dxccAt, qsoWith, answerWith, answerOver, mapped, isRow, rises, isRecord, mappedTo, withNormal, normalTo};
 use columns::DXCC;
 use columns::FREQ;
 use columns::FREQ_RX;
@@ -24,12 +24,6 @@ use refusals::Refusal;
 use tables::Found;
 use tables::Place;
 use tables::places;
-
-fn value_place(row: [u32; 5]) -> Place
-    ensures { λ r. ⌜ r ≡ valuePlace row ⌝ }
-{
-    places::stands(row[3], row[4])
-}
 
 // From the last row to the first, so that of two rows of one name the first stands.
 fn columns_of(text: &[u8], table: &[u32], first: usize, count: usize) -> [Place; 13]
@@ -45,7 +39,7 @@ fn columns_of(text: &[u8], table: &[u32], first: usize, count: usize) -> [Place;
         let Found::At(k) = found else {
             continue;
         };
-        columns[k as usize] = value_place(row);
+        columns[k as usize] = places::value_place(row);
     }
     columns
 }

@@ -6,9 +6,11 @@ use mathlib.Core.List.{List, [], _∷_}
 use mathlib.Core.Option.{Option, none, some}
 use Prim.Native.Nat.{ℕ, zero, suc}
 use native.Mathlib.Omega.{arith}
+use borrow.Author.Tests.{not-true}
 use Rattle.text.specs.Pick.{pick, both}
 use Rattle.text.specs.Space.{space1, space2, space3, space80, spaceLen, spaceBack, width, trimStart, trimEnd, trimmed}
 use Rattle.text.specs.Walk.{lead}
+use Rattle.text.proofs.BoolLaws.{both-left, both-right}
 use Rattle.letters.specs.Capitals.{raised}
 use Rattle.letters.specs.Same.{same, sameRaised}
 use Rattle.letters.proofs.SameLaws.{same-true}
@@ -17,9 +19,9 @@ use Rattle.tables.specs.Bands.{bands, bandNames, bandFor, bandNamed}
 use Rattle.tables.specs.Modes.{modes, modeNames}
 use Rattle.tables.specs.declared.Found.{Found}
 use Rattle.tables.specs.declared.Found.the-variants.{At, Nothing}
-use Rattle.tables.proofs.Tested.{both-left, both-right, all}
+use Rattle.tables.proofs.Tested.{all}
 use Rattle.normalize.specs.Normal.{otherwise, normal}
-use Rattle.normalize.proofs.ModeTheorems.{normal-twice}
+use Rattle.normalize.proofs.ModeTheorems.{normal-twice, isNone, is-none}
 use Rattle.model.specs.Contact.{Contact}
 use Rattle.model.specs.Normal.{bandName, bandOf, canonical, isBlank, normalBand, normalBandRx, normalContact}
 
@@ -28,15 +30,11 @@ abbrev pub names : Option (List ℕ) → List ℕ → Bool
 names none x = false
 names (some y) x = same y x
 
-abbrev pub namesNone : Option (List ℕ) → Bool
-namesNone none = true
-namesNone (some y) = false
-
 unfoldable pub settled : List ℕ → Bool
 settled x = both (not (isBlank x)) (names (canonical x) x)
 
 unfoldable pub foreign : List ℕ → Bool
-foreign x = both (not (isBlank x)) (namesNone (canonical x))
+foreign x = both (not (isBlank x)) (isNone (canonical x))
 
 bands-settled : all settled bandNames ≡ true
 unfolding settled isBlank canonical bandNamed named bandNames bands trimmed trimStart trimEnd lead spaceLen spaceBack width space1 space2 space3 space80 sameRaised raised
@@ -52,10 +50,6 @@ entry-tested test (x ∷ xs) zero y t e =
     let z : x ≡ y = cc in
     rw z at (both-left (test x) (all test xs) t)
 entry-tested test (x ∷ xs) (suc k) y t e = entry-tested test xs k y (both-right (test x) (all test xs) t) e
-
-not-true : (b : Bool) → not b ≡ true → b ≡ false
-not-true true e = absurd (let z : _≡_ {A = ℕ} 0 1 = cc in omega arith)
-not-true false e = refl
 
 module _ (x : List ℕ) (e : settled x ≡ true) where
   pub settled-not-blank : isBlank x ≡ false
@@ -73,15 +67,11 @@ module _ (x : List ℕ) (e : settled x ≡ true) where
 module _ (x : List ℕ) (e : foreign x ≡ true) where
   pub foreign-not-blank : isBlank x ≡ false
   unfolding foreign
-  foreign-not-blank = not-true (isBlank x) (both-left (not (isBlank x)) (namesNone (canonical x)) e)
+  foreign-not-blank = not-true (isBlank x) (both-left (not (isBlank x)) (isNone (canonical x)) e)
 
   pub foreign-canonical : canonical x ≡ none
   unfolding foreign
-  foreign-canonical = by (canonical x) (both-right (not (isBlank x)) (namesNone (canonical x)) e)
-    where
-      by : (o : Option (List ℕ)) → namesNone o ≡ true → o ≡ none
-      by none q = refl
-      by (some y) q = absurd (let z : _≡_ {A = ℕ} 0 1 = cc in omega arith)
+  foreign-canonical = is-none (canonical x) (both-right (not (isBlank x)) (isNone (canonical x)) e)
 
 pub band-entry : (k : ℕ) (y : List ℕ) → entry bandNames k ≡ some y → settled y ≡ true
 band-entry k y e = entry-tested settled bandNames k y bands-settled e
@@ -155,3 +145,7 @@ contact-twice c =
     let x : normalBandRx (normalBandRx (c .bandRx) (c .freqRx)) (c .freqRx) ≡ normalBandRx (c .bandRx) (c .freqRx) = band-rx-twice (c .bandRx) (c .freqRx) in
     let m : normal (normal (c .mode) (c .submode) .mode) (normal (c .mode) (c .submode) .submode) ≡ normal (c .mode) (c .submode) = normal-twice (c .mode) (c .submode) in
     rw (b, x, m) refl
+
+pub no-band : bandNamed [] ≡ Nothing
+unfolding bandNamed named bandNames bands trimmed trimStart trimEnd lead spaceLen spaceBack width space1 space2 space3 space80 sameRaised raised
+no-band = refl

@@ -21,13 +21,14 @@ use Rattle.mhz.specs.Number.{negative, unsigned, pointed, wholePart, fractionPa
 use Rattle.mhz.specs.Reading.{readHertz}
 use Rattle.mhz.specs.declared.Hz.{Hz}
 use Rattle.mhz.specs.declared.Hz.the-variants.{Absent, Is, Outside}
-use Rattle.tables.specs.Table.{firstFrom, named, isFound}
-use Rattle.tables.specs.Place.{absent, part, value, orEmpty, bytes}
+use Rattle.tables.specs.Table.{firstFrom, isFound}
+use Rattle.tables.specs.Place.{absent, part, value, orEmpty, bytes, valuePlace}
 use Rattle.tables.specs.declared.Place.{Place}
 use Rattle.adif.specs.Grammar.{Field}
 use Rattle.rowcheck.specs.Check.{Row, nameIn}
 use Rattle.writer.specs.Rows.{rowField}
-use Rattle.columns.specs.Columns.{columnNames, columnNamed, isColumn}
+use Rattle.columns.specs.Columns.{columnNames, isColumn}
+use Rattle.columns.proofs.ColumnLaws.{named-raised}
 use Rattle.model.specs.Contact.{Contact, contact, hertz, entity}
 use Rattle.model.specs.Answer.{accepted, refused}
 use Rattle.model.specs.declared.Answer.{Answer}
@@ -35,9 +36,8 @@ use Rattle.model.specs.declared.Frequency.{Frequency}
 use Rattle.model.specs.declared.Dxcc.{Dxcc}
 use Rattle.model.specs.declared.Qso.{Qso}
 use Rattle.mapping.specs.Contact.{valueNamed, hertzRead, frequencyRead, entityRead, dxccRead, extraFields, contactOf}
-use Rattle.mapping.specs.Mapping.{valuePlace, placeNamed, columnsOf, extraRows, frequencyOf, dxccOf, dxccAt, qsoWith}
+use Rattle.mapping.specs.Mapping.{placeNamed, columnsOf, extraRows, frequencyOf, dxccOf, dxccAt, qsoWith}
 use Rattle.mapping.proofs.AnswerLaws.{no-hertz, no-number}
-use Rattle.meaning.proofs.NormalMeaning.{first-alike, raised-alike}
 
 -- the names are in capitals
 in-capitals-0 : capitals (ascii "CALL") ≡ ascii "CALL"
@@ -134,13 +134,9 @@ module _ (text : List ℕ) where
       by false e = e
 
   -- the extra fields
-  column-alike : (x : List ℕ) → columnNamed (capitals x) ≡ columnNamed x
-  unfolding columnNamed named
-  column-alike x = first-alike (sameRaised (capitals x)) (sameRaised x) (raised-alike x) 0 columnNames
-
   pub extra-said : (rows : List Row) → map (rowField text) (extraRows text rows) ≡ extraFields (map (rowField text) rows)
   extra-said [] = refl
-  extra-said (r ∷ rs) = rw (column-alike (nameIn text r)) (by (isColumn (nameIn text r)) (extra-said rs))
+  extra-said (r ∷ rs) = rw (named-raised (nameIn text r)) (by (isColumn (nameIn text r)) (extra-said rs))
     where
       by : (t : Bool) → map (rowField text) (extraRows text rs) ≡ extraFields (map (rowField text) rs)
           → map (rowField text) (pick t (extraRows text rs) (r ∷ extraRows text rs)) ≡ pick t (extraFields (map (rowField text) rs)) (rowField text r ∷ extraFields (map (rowField text) rs))

@@ -9,11 +9,9 @@ use lib.ListN.{length, getD, set, take, drop, length-take, length-drop}
 use borrow.Author.Tests.{ne-eqb, eqb-true, eq-eqb, leb-true, le-leb, lt-ltb}
 use Rattle.text.specs.Pick.{pick, both}
 use Rattle.text.specs.Utf8.{utf8}
-use Rattle.text.specs.Space.{space1, space2, space3, space80, spaceLen, spaceBack, width, trimStart, trimEnd, trimmed}
-use Rattle.text.specs.Walk.{lead}
-use Rattle.text.proofs.BoolLaws.{both-true}
+use Rattle.text.specs.Space.{trimStart, trimEnd, trimmed}
+use Rattle.text.proofs.BoolLaws.{both-true, both-left, both-right}
 use Rattle.text.proofs.SpaceLaws.{start-le}
-use Rattle.letters.specs.Capitals.{raised}
 use Rattle.letters.specs.Same.{sameRaised}
 use Rattle.tables.specs.Table.{named}
 use Rattle.tables.specs.Bands.{bands, bandNames, holds, bandFor, bandNamed}
@@ -22,11 +20,11 @@ use Rattle.tables.specs.Place.{place, absent, inText, inCapitals, bandEntry, mo
 use Rattle.tables.specs.declared.Found.{Found}
 use Rattle.tables.specs.declared.Found.the-variants.{At, Nothing}
 use Rattle.tables.specs.declared.Place.{Place}
-use Rattle.tables.proofs.Tested.{both-left, both-right, all}
+use Rattle.tables.proofs.Tested.{all}
 use Rattle.normalize.specs.Modes.{submodes, aliases}
 use Rattle.normalize.specs.Normal.{modeNumbers, entryAt, names, parentEntry, aliasEntry, aliasedPlace, splitPlace, normalPlaces, modal}
 use Rattle.normalize.specs.declared.ModePair.{ModePair}
-use Rattle.normalize.proofs.TrimLaws.{trim-twice}
+use Rattle.normalize.proofs.TrimLaws.{trim-twice, trimmed-start}
 use Rattle.normalize.proofs.Meaning.{sub-part, no-submode, no-alias}
 use Rattle.columns.specs.Columns.{mode, submode, band, bandRx}
 use Rattle.columns.proofs.LaidLaws.{found-within}
@@ -39,6 +37,7 @@ use Rattle.model.specs.declared.Qso.{Qso}
 use Rattle.model.specs.declared.Frequency.{Frequency}
 use Rattle.model.specs.declared.Dxcc.{Dxcc}
 use Rattle.model.specs.declared.Answer.{Answer}
+use Rattle.meaning.proofs.BandLaws.{no-band}
 
 -- ---- a place in the text, trimmed
 trim-short : (xs : List ℕ) → trimStart xs + length (trimmed xs) ≤ length xs
@@ -46,9 +45,6 @@ unfolding trimmed
 trim-short xs =
     omega
     (arith, start-le xs, length-take (trimEnd (drop (trimStart xs) xs)) (drop (trimStart xs) xs), length-drop (trimStart xs) xs)
-
-trimmed-start : (xs : List ℕ) → trimStart (trimmed xs) ≡ 0
-trimmed-start xs = omega (arith, trim-short (trimmed xs), ap length (trim-twice xs))
 
 trimmed-whole : (xs : List ℕ) → utf8 xs ≡ true → utf8 (trimmed xs) ≡ true
 unfolding utf8
@@ -492,10 +488,6 @@ known-pick false p q a b = b
 settles : (g : Place → Place) (x p : Place) → g p ≡ orElse x p → Known x → ((k : ℕ) → g (bandEntry k) ≡ bandEntry k) → g (g p) ≡ g p
 settles g _ p e unknown h = ap g e
 settles g _ p e (known k) h = ap g e ∙ h k ∙ sym e
-
-no-band : bandNamed [] ≡ Nothing
-unfolding bandNamed named bandNames bands trimmed trimStart trimEnd lead spaceLen spaceBack width space1 space2 space3 space80 sameRaised raised
-no-band = refl
 
 module _ (text : List ℕ) (f : Frequency) where
   at-known : Known (bandAt f)

@@ -3,28 +3,28 @@ use mathlib.Core.Path.{_≡_, refl, sym, ap, _∙_}
 use mathlib.Core.Bool.{Bool, true, false}
 use mathlib.Core.List.{List, [], _∷_, map}
 use mathlib.Core.Option.{Option, none, some}
-use Prim.Native.Nat.{ℕ, zero, suc, _+_, _<_}
-use native.Mathlib.Nat.{not-suc-le-zero, le-of-suc-le-suc}
+use Prim.Native.Nat.{ℕ, zero, suc, _+_}
 use native.Mathlib.Omega.{arith}
 use lib.Dec.{eqb, ltb}
 use lib.ListN.{length, getD, take, drop, length-map}
 use borrow.Author.Tests.{ne-eqb, eqb-true, ltb-true}
 use Rattle.text.specs.Pick.{pick, both, either}
-use Rattle.text.specs.Space.{space1, space2, space3, space80, spaceLen, spaceBack, width, trimStart, trimEnd, trimmed}
+use Rattle.text.specs.Space.{trimStart, trimEnd, trimmed}
 use Rattle.text.specs.Walk.{lead}
+use Rattle.text.proofs.BoolLaws.{both-left, both-right}
 use Rattle.letters.specs.Capitals.{raised, capitals}
 use Rattle.letters.specs.Same.{same, sameRaised}
-use Rattle.letters.proofs.CapitalLaws.{capitals-twice}
-use Rattle.tables.specs.Table.{firstFrom, named, entry}
+use Rattle.letters.proofs.SpaceLaws.{trim-capitals}
+use Rattle.trip.proofs.Raised.{word-raised}
+use Rattle.tables.specs.Table.{named, entry}
 use Rattle.tables.specs.Bands.{bands, bandNames, holds, bandFor, bandNamed}
 use Rattle.tables.specs.Modes.{modeNames}
 use Rattle.tables.specs.Place.{place, absent, part, value, orEmpty, bytes, orElse, bandPlace, bandEntry}
 use Rattle.tables.specs.declared.Found.{Found}
 use Rattle.tables.specs.declared.Found.the-variants.{At, Nothing}
 use Rattle.tables.specs.declared.Place.{Place}
-use Rattle.tables.proofs.Tested.{both-left, both-right}
+use Rattle.tables.proofs.EntryLaws.{entry-in, first-alike}
 use Rattle.normalize.specs.Normal.{otherwise, normal, normalPlaces, modal}
-use Rattle.normalize.proofs.TrimLaws.{trim-capitals}
 use Rattle.normalize.proofs.Meaning.{mode-means, submode-means, one-text}
 use Rattle.columns.proofs.LaidLaws.{found-within}
 use Rattle.adif.specs.Grammar.{Field}
@@ -34,7 +34,7 @@ use Rattle.model.specs.Answer.{isEntry, isFit, areFit, isQso}
 use Rattle.model.specs.declared.Frequency.{Frequency}
 use Rattle.model.specs.declared.Dxcc.{Dxcc}
 use Rattle.model.specs.declared.Qso.{Qso}
-use Rattle.meaning.proofs.BandLaws.{opened, settled-not-blank, settled-canonical, foreign-not-blank, foreign-canonical, band-entry, mode-entry}
+use Rattle.meaning.proofs.BandLaws.{opened, settled-not-blank, settled-canonical, foreign-not-blank, foreign-canonical, band-entry, mode-entry, no-band}
 
 -- ---- the places that stand for texts, one by one
 data Fitted : Place → Type 0 where
@@ -43,11 +43,6 @@ data Fitted : Place → Type 0 where
   up : (a n : ℕ) → Fitted (place 2 a n)
   band : (k n : ℕ) (y : List ℕ) → entry bandNames k ≡ some y → Fitted (place 3 k n)
   mode : (k n : ℕ) (y : List ℕ) → entry modeNames k ≡ some y → Fitted (place 4 k n)
-
-entry-in : (l : List (List ℕ)) (k : ℕ) → k < length l → entry l k ≡ some (getD l k [])
-entry-in [] k h = absurd (not-suc-le-zero h)
-entry-in (x ∷ xs) zero h = refl
-entry-in (x ∷ xs) (suc k) h = entry-in xs k (le-of-suc-le-suc h)
 
 fitted-entry : (k a n : ℕ) → either (both (eqb k 3) (ltb a (length bandNames))) (both (eqb k 4) (ltb a (length modeNames))) ≡ true → Fitted (place k a n)
 fitted-entry k a n e = by (eqb k 3) refl e
@@ -78,17 +73,9 @@ fitted : (text : List ℕ) (p : Place) → isFit text p ≡ true → Fitted p
 fitted text p e = fitted-place text (p .kind) (p .start) (p .len) e
 
 -- ---- the case of letters does not tell bands apart
-pub first-alike : (f g : List ℕ → Bool) → ((n : List ℕ) → f n ≡ g n) → (j : ℕ) (ns : List (List ℕ)) → firstFrom f j ns ≡ firstFrom g j ns
-first-alike f g e j [] = refl
-first-alike f g e j (n ∷ ns) = rw (e n, first-alike f g e (suc j) ns) refl
-
-pub raised-alike : (x n : List ℕ) → sameRaised (capitals x) n ≡ sameRaised x n
-unfolding sameRaised
-raised-alike x n = rw (capitals-twice x) refl
-
 named-capitals : (x : List ℕ) → bandNamed (capitals x) ≡ bandNamed x
 unfolding bandNamed named
-named-capitals x = rw (trim-capitals x) (first-alike (sameRaised (capitals (trimmed x))) (sameRaised (trimmed x)) (raised-alike (trimmed x)) 0 bandNames)
+named-capitals x = rw (trim-capitals x) (first-alike (sameRaised (capitals (trimmed x))) (sameRaised (trimmed x)) (word-raised (trimmed x)) 0 bandNames)
 
 canonical-capitals : (x : List ℕ) → canonical (capitals x) ≡ canonical x
 unfolding canonical
@@ -123,10 +110,6 @@ module _ (text : List ℕ) where
   found-or (At k) p x e h = rw (h k refl) refl
   found-or Nothing p x e h = e
 
-  no-band-here : bandNamed [] ≡ Nothing
-  unfolding bandNamed named bandNames bands trimmed trimStart trimEnd lead spaceLen spaceBack width space1 space2 space3 space80 sameRaised raised
-  no-band-here = refl
-
   cased-means : (p : Place) → Fitted p → (x : List ℕ) → value text p ≡ some x → value text (orElse (knownBand text p) p) ≡ some (otherwise (canonical x) x)
   unfolding knownBand part value canonical
   cased-means _ (gone a n) x e = absurd (let z : _≡_ {A = ℕ} 0 1 = cc in omega arith)
@@ -139,13 +122,13 @@ module _ (text : List ℕ) where
       rw (← w) (found-or (bandNamed x) (place 2 a n) x e (named-found x))
   cased-means _ (band k n y e) x q =
       let z : y ≡ x = cc in
-      rw (no-band-here) (q ∙ ap some (sym (kept x (rw z at (settled-canonical y (band-entry k y e))))))
+      rw no-band (q ∙ ap some (sym (kept x (rw z at (settled-canonical y (band-entry k y e))))))
     where
       kept : (x : List ℕ) → canonical x ≡ some x → otherwise (canonical x) x ≡ x
       kept x c = ap (λ (o : Option (List ℕ)). otherwise o x) c
   cased-means _ (mode k n y e) x q =
       let z : y ≡ x = cc in
-      rw (no-band-here) (q ∙ ap some (sym (kept x (rw z at (foreign-canonical y (mode-entry k y e))))))
+      rw no-band (q ∙ ap some (sym (kept x (rw z at (foreign-canonical y (mode-entry k y e))))))
     where
       kept : (x : List ℕ) → canonical x ≡ none → otherwise (canonical x) x ≡ x
       kept x c = ap (λ (o : Option (List ℕ)). otherwise o x) c

@@ -18,6 +18,7 @@ use Rattle.headers.proofs.SizeLaws.{after}
 use Rattle.cells.specs.Cells.{columnOrder, cellFields, isDropped}
 use Rattle.cells.specs.declared.Cell.{Cell}
 use Rattle.cellfields.specs.Fields.{nameAt, cellField}
+use Rattle.cellfields.proofs.NameLaws.{names-from}
 use Rattle.merge.specs.Merge.{below, above, merged}
 use Rattle.merge.specs.Steps.{fieldsBetween, mergedText, Cuts}
 use Rattle.merge.specs.declared.Cut.{Cut}
@@ -45,10 +46,6 @@ module _ (text : List ℕ) (cells : List Cell) (t : List ℕ) (count : ℕ) wher
   rest-last k first h = rw (drop-of-length-le columnOrder h) (fields-end (fieldsBetween text t first count))
 
   module _ (l : length cells ≡ 13) (k : ℕ) (h : k < 13) (d : Cell) (b : Bool) (eb : b ≡ isDropped (getD cells k d)) where
-    names : drop k columnOrder ≡ nameAt k ∷ drop (k + 1) columnOrder
-    unfolding nameAt columnOrder
-    names = rw add-one (drop-cons columnOrder k [] h)
-
     values : drop k cells ≡ getD cells k d ∷ drop (k + 1) cells
     values = rw add-one (drop-cons cells k d (omega arith))
 
@@ -56,14 +53,14 @@ module _ (text : List ℕ) (cells : List Cell) (t : List ℕ) (count : ℕ) wher
     unfolding rest
     rest-skip g first =
         let y : isDropped (getD cells k d) ≡ true = sym eb ∙ g in
-        rw (names, values, y) refl
+        rw (names-from k h, values, y) refl
 
     module _ (g : b ≡ false) (first : ℕ) (c : Cut) (p : Cuts text t first count k c) where
       pub rest-step : rest k first ≡ fieldsText (fieldsBetween text t first (c .below)) ++ (cellField text k (getD cells k d) ++ rest (k + 1) (c .above))
       unfolding rest cellField
       rest-step =
           let y : isDropped (getD cells k d) ≡ false = sym eb ∙ g in
-          rw (names, values, y) (fields-then (below (nameAt k) (fieldsBetween text t first count)) _ ∙ rw (p .lower, p .upper) refl)
+          rw (names-from k h, values, y) (fields-then (below (nameAt k) (fieldsBetween text t first count)) _ ∙ rw (p .lower, p .upper) refl)
 
 -- ---- put
 module _ (text : List ℕ) (cells : List Cell) (t : List ℕ) (count : ℕ) where

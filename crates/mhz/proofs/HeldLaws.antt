@@ -10,6 +10,7 @@ use lib.Dec.{eqb, ltb}
 use borrow.Author.Tests.{le-leb, lt-leb, eq-eqb, ne-eqb, eqb-true, eqb-false, ltb-true, ltb-false}
 use Rattle.text.specs.Pick.{pick, either}
 use Rattle.decimal.specs.Decimal.{number}
+use Rattle.decimal.proofs.DecimalLaws.{grow}
 use Rattle.mhz.specs.Digits.{digitsOf, numberOf}
 use Rattle.mhz.specs.Number.{Exponent, malformed, power, allDigits, unsigned, negative, exponentOf, wholePart, fractionPart, afterDecimal, withExponent, decimalOf}
 use Rattle.mhz.specs.Reading.{decimalHertz, numberHertz}
@@ -32,10 +33,6 @@ above-or m n = go (ltb m n) refl
     go true e = inl (ltb-true m n e)
     go false e = inr (ltb-false m n e)
 
-on-grows : (n : ℕ) (ds : List ℕ) → n ≤ number n ds
-on-grows n [] = omega arith
-on-grows n (d ∷ ds) = let i = on-grows (n * 10 + (d - 0x30)) ds in omega arith
-
 -- what is above `most` is held as it is
 full : (most n : ℕ) (ds : List ℕ) → most < n → held most n ds ≡ n
 unfolding grown
@@ -47,7 +44,7 @@ unfolding grown
 held-alike most n [] = record { same = λ h. refl; more = λ h. h }
 held-alike most n (d ∷ ds) = elim (above-or most n) [
   | inl h ↦
-      let g : n ≤ number (n * 10 + (d - 0x30)) ds = le-trans' n (n * 10 + (d - 0x30)) (number (n * 10 + (d - 0x30)) ds) (omega arith) (on-grows (n * 10 + (d - 0x30)) ds) in
+      let g : n ≤ number (n * 10 + (d - 0x30)) ds = le-trans' n (n * 10 + (d - 0x30)) (number (n * 10 + (d - 0x30)) ds) (omega arith) (grow (n * 10 + (d - 0x30)) ds) in
       record { same = λ k. absurd (omega arith); more = λ k. rw (lt-leb n most h) (rw (full most n ds h) h) }
   | inr h ↦ rw (le-leb n most h) (held-alike most (n * 10 + (d - 0x30)) ds)
 ]

@@ -1,27 +1,20 @@
 -- A text that the grammar makes says the number that the grammar gives it. Assumes nothing.
 use mathlib.Core.Path.{_≡_, refl, sym, ap, _∙_}
-use mathlib.Core.Bool.{Bool, true, false, true≢false}
+use mathlib.Core.Bool.{Bool, true, false}
 use mathlib.Core.List.{List, [], _∷_, _++_, append-nil, append-assoc}
 use Prim.Native.Nat.{ℕ, _+_, _≤_, _<_}
 use native.Mathlib.Omega.{arith}
 use lib.ListN.{length, getD}
 use lib.Dec.{leb, lit≤}
 use borrow.Author.Tests.{leb-true, ne-eqb}
-use Rattle.text.specs.Pick.{pick, both}
+use Rattle.text.specs.Pick.{pick}
+use Rattle.text.proofs.BoolLaws.{both-left, both-right}
 use Rattle.decimal.specs.Decimal.{allDigits}
 use Rattle.mhz.specs.Digits.{isDigit, digitsOf, afterDigits, numberOf}
 use Rattle.mhz.specs.Number.{Number, decimal, malformed, power, negative, unsigned, pointed, wholePart, fractionPart, afterDecimal, exponentOf, decimalOf, numberIn}
 use Rattle.mhz.specs.Number.{allDigits as onlyDigits}
 use Rattle.mhz.specs.Grammar.{Sign, no-sign, plus, minus, Mantissa, no-point, point, Exponent, no-exponent, small-e, capital-e, Decimal, of}
 use Rattle.mhz.proofs.TextLaws.{below-words}
-
-both-left : (a b : Bool) → both a b ≡ true → a ≡ true
-both-left true b e = refl
-both-left false b e = absurd (true≢false (sym e))
-
-both-right : (a b : Bool) → both a b ≡ true → b ≡ true
-both-right true b e = e
-both-right false b e = absurd (true≢false (sym e))
 
 -- ---- digits in front of a text
 digits-front : (ds ys : List ℕ) → allDigits ds ≡ true → digitsOf (ds ++ ys) ≡ ds ++ digitsOf ys

@@ -10,8 +10,9 @@ use lib.Seq.{getD-drop}
 use lib.Dec.{eqb, leb, lit<}
 use lib.Ieee.{inf, nan, mul, lt}
 use borrow.Author.Tests.{lt-leb, ne-eqb}
-use Rattle.text.specs.Pick.{pick, both, either}
+use Rattle.text.specs.Pick.{pick, either}
 use Rattle.text.proofs.SpaceLaws.{rest}
+use Rattle.text.proofs.Utf8Laws.{both-no}
 use Rattle.letters.specs.Capitals.{raised}
 use Rattle.letters.specs.Same.{sameRaised}
 use Rattle.hertz.specs.Whole.{toHz, belowZero, rounded}
@@ -56,11 +57,7 @@ module _ (s a b x y : Bool) (xs : List ℕ)
 
 -- ---- no decimal begins above the digits
 no-digit : (b : ℕ) → 0x39 < b → isDigit b ≡ false
-no-digit b h = rw (lt-leb b 0x39 h) (last (leb 0x30 b))
-  where
-    last : (t : Bool) → both t false ≡ false
-    last true = refl
-    last false = refl
+no-digit b h = rw (lt-leb b 0x39 h) (both-no (leb 0x30 b))
 
 above-digits : (s : Bool) (xs : List ℕ) → 0x39 < getD xs 0 0 → decimalOf s xs ≡ none
 unfolding decimalOf wholePart fractionPart pointed

@@ -1,6 +1,5 @@
 -- Megahertz written into a lent output. Assumes nothing.
 use mathlib.Core.Path.{_≡_, refl, sym, ap, _∙_}
-use mathlib.Core.Bool.{Bool, true, false}
 use mathlib.Core.List.{List, [], _∷_, _++_}
 use Prim.Native.Nat.{ℕ, zero, suc, _+_, _-_, _/_, _%_, _≤_, _<_}
 use native.Mathlib.Nat.{not-suc-le-zero}
@@ -8,10 +7,8 @@ use native.Mathlib.Numerals.{sub-one}
 use native.Mathlib.Omega.{arith}
 use lib.ListN.{length, set, length-append}
 use lib.Seq.{sets, set-comm}
-use lib.Dec.{ltb}
 use borrow.Author.Tests.{le-leb, lt-leb}
-use Rattle.text.specs.Pick.{pick}
-use Rattle.decimal.specs.Digits.{digits, decimal}
+use Rattle.decimal.specs.Digits.{decimal}
 use Rattle.output.specs.Put.{Put, Room}
 use Rattle.output.proofs.PutLaws.{put-then, room-first, room-next}
 use Rattle.mhz.specs.Digits.{lastDigits}
@@ -61,19 +58,6 @@ unfolding Room
 room-last l at k n h = omega (arith, h, length-last k n)
 
 -- ---- a frequency's text
-digits-le : (k n : ℕ) → length (digits k n) ≤ k
-unfolding digits
-digits-le zero n = omega arith
-digits-le (suc k) n = go (ltb n 10) (digits-le k (n / 10))
-  where
-    go : (t : Bool) → length (digits k (n / 10)) ≤ k → length (pick t ((0x30 + n) ∷ []) (digits k (n / 10) ++ ((0x30 + n % 10) ∷ []))) ≤ suc k
-    go true h = omega arith
-    go false h = omega (arith, length-append (digits k (n / 10)) ((0x30 + n % 10) ∷ []))
-
-pub few-digits : (n : ℕ) → length (decimal n) ≤ 20
-unfolding decimal
-few-digits n = digits-le 20 n
-
 pub size-is : (hz r : ℕ) → r ≡ length (decimal (hz / 1000000)) → r + 7 ≡ length (mhzText hz)
 unfolding sixDecimals
 size-is hz r e = omega (arith, e, length-append (decimal (hz / 1000000)) (0x2E ∷ lastDigits 6 (hz % 1000000)))

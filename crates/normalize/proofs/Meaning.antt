@@ -5,7 +5,7 @@ use mathlib.Core.Bool.{Bool, true, false}
 use mathlib.Core.List.{List, [], _∷_}
 use mathlib.Core.Option.{Option, none, some}
 use Prim.Native.Nat.{ℕ, zero, suc, _+_, _-_, _≤_, _<_}
-use native.Mathlib.Nat.{not-suc-le-zero, le-of-suc-le-suc, zero-add, add-zero, add-suc, suc-add}
+use native.Mathlib.Nat.{zero-add, add-zero, add-suc, suc-add}
 use native.Mathlib.Omega.{arith}
 use lib.Dec.{eqb, ltb}
 use lib.ListN.{length, getD, take, drop, length-take, List·getD-map}
@@ -14,12 +14,15 @@ use borrow.Author.Tests.{eqb-true, ltb-true, lt-leb}
 use Rattle.text.specs.Pick.{pick, both}
 use Rattle.text.specs.Space.{trimStart, trimEnd, trimmed}
 use Rattle.text.specs.Walk.{lead}
+use Rattle.text.proofs.BoolLaws.{both-left, both-right}
 use Rattle.letters.specs.Capitals.{raised, capitals}
 use Rattle.letters.specs.Same.{same, sameRaised}
 use Rattle.letters.proofs.CapitalLaws.{capitals-twice}
 use Rattle.letters.proofs.SameLaws.{same-true}
+use Rattle.letters.proofs.SpaceLaws.{trim-capitals}
 use Rattle.tables.specs.Table.{firstFrom, named, entry}
 use Rattle.tables.specs.Modes.{modes, modeNames}
+use Rattle.tables.proofs.EntryLaws.{entry-in}
 use Rattle.normalize.specs.Modes.{Known, submodes, aliases}
 use Rattle.tables.specs.Place.{place, absent, modeEntry, part, value, orEmpty, bytes, tidy, isEmpty, orElse}
 use Rattle.normalize.specs.Normal.{tidied, lookup, parentOf, otherwise, aliased, unlessEmpty, given, Normal, split, joined, normal, number, modeNumbers, entryAt, names, parentEntry, aliasEntry, aliasedPlace, splitPlace, normalPlaces, modal}
@@ -27,8 +30,7 @@ use Rattle.tables.specs.declared.Found.{Found}
 use Rattle.tables.specs.declared.Found.the-variants.{At, Nothing}
 use Rattle.tables.specs.declared.Place.{Place}
 use Rattle.normalize.specs.declared.ModePair.{ModePair}
-use Rattle.tables.proofs.Tested.{both-left, both-right, all, all-at}
-use Rattle.normalize.proofs.TrimLaws.{trim-capitals}
+use Rattle.tables.proofs.Tested.{all, all-at}
 use Rattle.normalize.proofs.ModeTheorems.{not, isNone, settled, settled-tidy, settled-parent, settled-lookup, settled-some, mode-settled, normal-twice}
 
 -- ---- a part of a part of the text is a part of the text
@@ -73,11 +75,6 @@ modal-place (suc (suc (suc k))) a n e =
     rw four (mode a n (ltb-true a (length modeNames) (both-right (eqb (suc (suc (suc k))) 4) (ltb a (length modeNames)) f)))
 
 -- ---- the entry of a table
-entry-in : (l : List (List ℕ)) (k : ℕ) → k < length l → entry l k ≡ some (getD l k [])
-entry-in [] k h = absurd (not-suc-le-zero h)
-entry-in (x ∷ xs) zero h = refl
-entry-in (x ∷ xs) (suc k) h = entry-in xs k (le-of-suc-le-suc h)
-
 entry-within : (l : List (List ℕ)) (k : ℕ) (v : List ℕ) → entry l k ≡ some v → k < length l
 entry-within [] k v e = absurd (let z : _≡_ {A = ℕ} 0 1 = cc in omega arith)
 entry-within (x ∷ xs) zero v e = omega arith

@@ -7,19 +7,22 @@ use mathlib.Core.Option.{Option, none, some}
 use Prim.Native.Nat.{ℕ, _<_}
 use native.Mathlib.Omega.{arith}
 use lib.ListN.{length, getD}
+use borrow.Author.Tests.{not-true}
 use Rattle.text.specs.Pick.{pick, both}
 use Rattle.text.specs.Space.{space1, space2, space3, space80, spaceLen, spaceBack, width, trimStart, trimEnd, trimmed}
 use Rattle.text.specs.Walk.{lead}
+use Rattle.text.proofs.BoolLaws.{both-left, both-right}
 use Rattle.letters.specs.Capitals.{raised}
 use Rattle.letters.specs.Same.{same, sameRaised}
 use Rattle.letters.proofs.CapitalLaws.{capitals-twice}
 use Rattle.letters.proofs.SameLaws.{same-true}
+use Rattle.letters.proofs.SpaceLaws.{trim-capitals}
 use Rattle.tables.specs.Bands.{bands, bandNames}
 use Rattle.tables.specs.Modes.{modes, modeNames}
 use Rattle.normalize.specs.Modes.{Known, submodes, aliases}
 use Rattle.normalize.specs.Normal.{tidied, lookup, parentOf, otherwise, aliased, unlessEmpty, given, Normal, split, joined, normal, names}
-use Rattle.tables.proofs.Tested.{both-left, both-right, all, pairs, all-at, pair-at}
-use Rattle.normalize.proofs.TrimLaws.{trim-twice, trim-capitals}
+use Rattle.tables.proofs.Tested.{all, pairs, all-at, pair-at}
+use Rattle.normalize.proofs.TrimLaws.{trim-twice}
 
 abbrev pub not : Bool → Bool
 not true = false
@@ -37,10 +40,6 @@ bands-differ : pairs (λ (x y : List ℕ). not (sameRaised x y)) bandNames ≡ t
 unfolding bandNames bands sameRaised raised
 bands-differ = refl
 
-not-true : (b : Bool) → not b ≡ true → b ≡ false
-not-true true e = absurd (let z : _≡_ {A = ℕ} 0 1 = cc in omega arith)
-not-true false e = refl
-
 pub no-mode-twice : (j k : ℕ) → j < k → k < length allModeNames → sameRaised (getD allModeNames j []) (getD allModeNames k []) ≡ false
 no-mode-twice j k l h = not-true _ (pair-at [] (λ (x y : List ℕ). not (sameRaised x y)) allModeNames modes-differ j k l h)
 
@@ -52,7 +51,7 @@ abbrev pub isNone : Option (List ℕ) → Bool
 isNone none = true
 isNone (some x) = false
 
-is-none : (o : Option (List ℕ)) → isNone o ≡ true → o ≡ none
+pub is-none : (o : Option (List ℕ)) → isNone o ≡ true → o ≡ none
 is-none none e = refl
 is-none (some x) e = absurd (let z : _≡_ {A = ℕ} 0 1 = cc in omega arith)
 

@@ -9,7 +9,7 @@ use lib.ListN.{length, length-append}
 use lib.Dec.{ltb}
 use borrow.Author.Tests.{lt-ltb, le-ltb}
 use Rattle.text.specs.Pick.{pick}
-use Rattle.decimal.specs.Digits.{digits}
+use Rattle.decimal.specs.Digits.{digits, decimal}
 use Rattle.output.specs.Put.{Put, Room}
 use Rattle.output.proofs.PutLaws.{put-none, put-then, room-first, room-next}
 
@@ -59,6 +59,13 @@ few-digits (suc k) n = by (ltb n 10) (few-digits k (n / 10))
     by : (t : Bool) → length (digits k (n / 10)) ≤ k → length (pick t ((0x30 + n) ∷ []) (digits k (n / 10) ++ ((0x30 + n % 10) ∷ []))) ≤ suc k
     by true i = omega arith
     by false i = omega (arith, length-append (digits k (n / 10)) ((0x30 + n % 10) ∷ []))
+
+pub few-decimals : (n d : ℕ) → d ≡ length (decimal n) → d ≤ 20
+unfolding decimal
+few-decimals n d e = omega (arith, few-digits 20 n)
+
+pub decimal-few : (n : ℕ) → length (decimal n) ≤ 20
+decimal-few n = few-decimals n (length (decimal n)) refl
 
 pub count-none : (k n : ℕ) → k ≡ 0 → 0 ≡ length (digits k n)
 count-none k n e = rw (no-digits k n e)

@@ -71,6 +71,18 @@ module _ (was : List ℕ) (at : ℕ) (a b : List ℕ) (h : Room was at (a ++ b))
   unfolding Room
   room-next q mid p = omega (arith, h, length-append a b, put-length q was mid at a p, put-next q was mid at a p)
 
+-- three parts put one after the other
+module _ (was : List ℕ) (at : ℕ) (a b c : List ℕ) (h : Room was at (a ++ (b ++ c))) (q : ℕ) (mid : List ℕ) (p : Put q was mid at a) where
+  pub room-second : Room mid q b
+  room-second = room-first mid q b c (room-next was at a (b ++ c) h q mid p)
+
+  pub room-third : (q′ : ℕ) (mid′ : List ℕ) → Put q′ mid mid′ q b → Room mid′ q′ c
+  room-third q′ mid′ p′ = room-next mid q b c (room-next was at a (b ++ c) h q mid p) q′ mid′ p′
+
+pub put-three : (was : List ℕ) (at : ℕ) (a b c : List ℕ) (q : ℕ) (mid : List ℕ) (q′ : ℕ) (mid′ : List ℕ) (r : ℕ) (now : List ℕ)
+    → Put q was mid at a → Put q′ mid mid′ q b → Put r mid′ now q′ c → Put r was now at (a ++ (b ++ c))
+put-three was at a b c q mid q′ mid′ r now x y z = put-then r q was mid now at a (b ++ c) x (put-then r q′ mid mid′ now q b c y z)
+
 -- the place after what was put lies within the output
 pub put-inside : (r : ℕ) (was now : List ℕ) (at : ℕ) (w : List ℕ) → Put r was now at w → Room was at w → r ≤ length now
 unfolding Room

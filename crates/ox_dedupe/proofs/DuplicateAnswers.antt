@@ -30,10 +30,6 @@ use Rattle.ox_text.specs.declared.Told.{Told}
 use Rattle.ox_dedupe.specs.Duplicates.{untimedOf, timedOf, momentAnswer, ofQsos, keyOf, momentIn, inLogAnswer, inFileAnswer, naturalAnswer, withinAnswer, duplicateAnswer}
 use Rattle.ox_dedupe.specs.declared.Timed.{Timed}
 
-pub untold-is : (why : Refusal) (n p : ℕ) → n ≡ numberOf why → p ≡ placeOf why → (record { refusal = n; place = p; yes = false }) ≡ untoldOf why
-unfolding untoldOf
-untold-is why n p en ep = cc
-
 pub untimed-is : (why : Refusal) (n p : ℕ) → n ≡ numberOf why → p ≡ placeOf why → (record { refusal = n; place = p; present = false; seconds = 0 }) ≡ untimedOf why
 unfolding untimedOf
 untimed-is why n p en ep = cc

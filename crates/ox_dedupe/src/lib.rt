@@ -2,7 +2,7 @@
 // 1, a date or a time that is not UTF-8 with 2, and a QSO that is none of its text with 11.
 ghost use mathlib.Core.Path.{_≡_};
 ghost use Rattle.ox_dedupe.specs.Duplicates.{untimedOf, timedOf, momentAnswer, ofQsos, keyOf, momentIn, inLogAnswer, inFileAnswer, naturalAnswer, withinAnswer, duplicateAnswer};
-ghost use Rattle.ox_text.specs.Texts.{untoldOf, toldOf};
+ghost use Rattle.ox_text.specs.Texts.{toldOf};
 use columns::BAND;
 use columns::CALL;
 use columns::MODE;
@@ -11,6 +11,7 @@ use columns::TIME_ON;
 use dedupe::Key;
 use model::Qso;
 use ox_text::Told;
+use ox_text::untold;
 use refusals::Refusal;
 use refusals::Verdict;
 use times::Moment;
@@ -91,16 +92,6 @@ fn moment_in(text: &[u8], q: Qso) -> Moment
     ensures { λ r. ⌜ r ≡ momentIn (now (text .entry)) q ⌝ }
 {
     dedupe::moment(text, q.columns[QSO_DATE], q.columns[TIME_ON])
-}
-
-fn untold(why: Refusal) -> Told
-    ensures { λ r. ⌜ r ≡ untoldOf why ⌝ }
-{
-    Told {
-        refusal: refusals::number(why),
-        place: refusals::place(why),
-        yes: false,
-    }
 }
 
 fn told(said: bool) -> Told

@@ -42,6 +42,7 @@ use Rattle.ox_normalize.specs.Normalizing.{
   classNameOf,
 }
 use Rattle.ox_text.specs.Texts.{untoldOf}
+use Rattle.ox_text.specs.declared.Told.{Told}
 use Rattle.ox_normalize.specs.declared.Normalized.{Normalized}
 use Rattle.ox_normalize.specs.declared.Classified.{Classified}
 
@@ -63,9 +64,9 @@ module _ (s : List ℕ) (v : Verdict) (e : v ≡ ofText s) where
       unfolding bandOf
       band-refused a ea = rw (← e, h, en, ep, ea) refl
 
-      pub band-known-refused : (record { refusal = n; place = p; yes = false }) ≡ bandKnownOf s
-      unfolding bandKnownOf untoldOf
-      band-known-refused = rw (← e, h, en, ep) refl
+    pub band-known-refused : (r : Told) → r ≡ untoldOf why → r ≡ bandKnownOf s
+    unfolding bandKnownOf
+    band-known-refused r q = rw (← e, h) q
 
     pub mode-class-refused : (r : Classified) → r ≡ unclassifiedOf why → r ≡ modeClassOf s
     unfolding modeClassOf

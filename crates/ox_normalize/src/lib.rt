@@ -10,6 +10,7 @@ use normalize::Classed;
 use normalize::classes;
 use normalize::modes;
 use ox_text::Told;
+use ox_text::untold;
 use refusals::Refusal;
 use refusals::Verdict;
 use refusals::check_text;
@@ -96,11 +97,7 @@ pub extern "C" fn ox_band_known(s: &[u8]) -> Told
 {
     let verdict = check_text(s);
     match verdict {
-        Verdict::Refused(why) => Told {
-            refusal: refusals::number(why),
-            place: refusals::place(why),
-            yes: false,
-        },
+        Verdict::Refused(why) => untold(why),
         Verdict::Accepted => Told {
             refusal: 0,
             place: 0,

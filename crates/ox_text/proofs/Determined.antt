@@ -8,6 +8,8 @@ use Rattle.ox_text.proofs.ox_text_check.Reads as ox-text-check
 use Rattle.ox_text.proofs.ox_text_check.Kinds as ox-text-check-kinds
 use Rattle.ox_text.proofs.ox_text_trim.Reads as ox-text-trim
 use Rattle.ox_text.proofs.ox_text_trim.Kinds as ox-text-trim-kinds
+use Rattle.ox_text.proofs.untold.Reads as untold
+use Rattle.ox_text.proofs.untold.Kinds as untold-kinds
 use Rattle.ox_text.proofs.ox_text_blank.Reads as ox-text-blank
 use Rattle.ox_text.proofs.ox_text_blank.Kinds as ox-text-blank-kinds
 use Rattle.ox_text.proofs.ox_text_same.Reads as ox-text-same
@@ -28,6 +30,9 @@ ox-text-check-once κs a x y d e p q = p ∙ sym q
 
 ox-text-trim-once : Once 1 ox-text-trim-kinds.ps ox-text-trim-kinds.r ox-text-trim.Post
 ox-text-trim-once κs a x y d e p q = p ∙ sym q
+
+untold-once : Once 0 untold-kinds.ps untold-kinds.r untold.Post
+untold-once κs a x y d e p q = p ∙ sym q
 
 ox-text-blank-once : Once 1 ox-text-blank-kinds.ps ox-text-blank-kinds.r ox-text-blank.Post
 ox-text-blank-once κs a x y d e p q = p ∙ sym q

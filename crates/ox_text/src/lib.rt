@@ -109,7 +109,8 @@ pub extern "C" fn ox_text_trim(s: &[u8]) -> Trimmed
     }
 }
 
-fn untold(why: Refusal) -> Told
+// A test that a refusal leaves unanswered.
+pub fn untold(why: Refusal) -> Told
     ensures { λ r. ⌜ r ≡ untoldOf why ⌝ }
 {
     Told {

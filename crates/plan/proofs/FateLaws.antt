@@ -36,6 +36,11 @@ one-of-seven reason bears matched download repeated = by (ltb 0 reason) bears ma
     by false false false false false = refl
 
 module _ (window : ℤ) (download : Bool) (entries : List Entry) (hits : List ℕ) where
+  pub fates-many : (k : ℕ) → length (fatesTo window download entries hits k) ≡ k
+  unfolding fatesTo
+  fates-many zero = refl
+  fates-many (suc k) = length-append (fatesTo window download entries hits k) _ ∙ omega (arith, fates-many k)
+
   fates-total : (k : ℕ) → totalOf (fatesTo window download entries hits k) ≡ k
   unfolding fatesTo fateAt count
   fates-total zero = refl

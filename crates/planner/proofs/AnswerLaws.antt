@@ -19,13 +19,15 @@ use Rattle.contacts.specs.Lists.{contactsOf}
 use Rattle.contacts.specs.declared.Listed.{Listed}
 use Rattle.contacts.specs.declared.Listed.the-variants.{Marked, Refused as RefusedList}
 use Rattle.indexing.specs.Index.{indexedAs}
-use Rattle.plan.specs.Entry.{entriesFrom, entriesOf}
+use Rattle.plan.specs.Entry.{entriesOf}
 use Rattle.plan.specs.Fates.{fatesIn}
 use Rattle.plan.specs.Plan.{Plan, planFrom, planned, countsWith, countsOf, hitsOf}
+use Rattle.plan.proofs.FateLaws.{fates-many}
 use Rattle.entries.specs.Row.{Row, noRow}
 use Rattle.entries.proofs.ReadFit.{FitRead, text-fit}
+use Rattle.entries.proofs.FilledLaws.{entries-many}
 use Rattle.closing.specs.Closed.{fateRows, padded}
-use Rattle.closing.proofs.PhaseLaws.{fates-are, fates-many}
+use Rattle.closing.proofs.PhaseLaws.{fates-are}
 use Rattle.planner.specs.Planning.{Asked, readOf, planFor, made, plannedRead, plannedBy, plannedAs, fatesBy, PlannedTo}
 use Rattle.planner.specs.declared.Planned.{Planned}
 use Rattle.planner.specs.declared.Planned.the-variants.{Made, Refused}
@@ -37,10 +39,6 @@ pub record MadeOf (a : Asked) (n cards already unmatched : ℕ) : Type 0 where
   pub confirmed : cards ≡ length (planFor a (readOf a) .confirmations)
   pub known : already ≡ planFor a (readOf a) .already
   pub strange : unmatched ≡ planFor a (readOf a) .unmatched
-
-entries-many : (text : List ℕ) (n : ℕ) (rs : List (List Field)) → length (entriesFrom text n rs) ≡ length rs
-entries-many text n [] = refl
-entries-many text n (r ∷ rs) = ap suc (entries-many text (suc n) rs)
 
 refused-made : {P : Type 0} (why : Refusal) (n used c already unmatched contacts top : ℕ) → Refused why ≡ Made n used c already unmatched contacts top → P
 refused-made why n used c already unmatched contacts top e = absurd (let z : _≡_ {A = ℕ} 0 1 = cc in omega arith)

@@ -11,11 +11,13 @@ use borrow.Author.Tests.{leb-true}
 use Rattle.text.specs.Ascii.{ascii}
 use Rattle.text.specs.Pick.{pick, both, either}
 use Rattle.text.specs.Utf8.{utf8}
+use Rattle.text.proofs.BoolLaws.{both-left, both-right}
 use Rattle.letters.specs.Capitals.{raised, capitals}
 use Rattle.letters.specs.Same.{same}
 use Rattle.letters.specs.Order.{order, orderRaised}
 use Rattle.letters.specs.declared.Order.the-variants.{Less}
 use Rattle.letters.proofs.CapitalLaws.{capitals-twice}
+use Rattle.letters.proofs.SpaceLaws.{trim-capitals}
 use Rattle.refusals.specs.declared.Refusal.{Refusal}
 use Rattle.refusals.specs.declared.Refusal.the-variants.{TooLong, ManyNames, BadRow, BadName, FrequencyTooHigh}
 use Rattle.refusals.specs.declared.Verdict.{Verdict}
@@ -24,11 +26,11 @@ use Rattle.tags.specs.Tags.{colon, gt}
 use Rattle.adif.specs.Grammar.{Field}
 use Rattle.adif.specs.Limits.{Ascending}
 use Rattle.rowcheck.specs.Check.{Row, nameIn, valueIn, placed, sound, writable}
-use Rattle.tables.proofs.Tested.{both-left, both-right}
+use Rattle.rowcheck.proofs.FineLaws.{refused-not, passed, onward, less}
 use Rattle.writer.specs.Rows.{rowsOf, rowField}
 use Rattle.trip.specs.File.{Good, AllGood, Writable}
 use Rattle.trip.proofs.Means.{named}
-use Rattle.trip.proofs.Raised.{good-raised, trim-raised, kind-raised, without-raised}
+use Rattle.trip.proofs.Raised.{good-raised, kind-raised, without-raised}
 use Rattle.trip.proofs.Accepted.{name-trim, name-colon, name-gt, name-kind, utf8-is}
 use Rattle.model.specs.Contact.{contact}
 use Rattle.model.specs.Answer.{isQso}
@@ -36,23 +38,12 @@ use Rattle.model.specs.declared.Qso.{Qso}
 use Rattle.mapping.specs.Contact.{valueNamed}
 use Rattle.qsowriter.specs.Record.{columnFields, merged, recordOf}
 use Rattle.qsowriter.specs.Writing.{contactWith, isTooHigh, isTaken, countWith, rowVerdict, isAbove, rowsAfter, extraVerdict, qsoVerdict}
-use Rattle.qsotrip.proofs.Merged.{less, merged-rises, merged-value}
+use Rattle.qsotrip.proofs.Merged.{merged-rises, merged-value}
 use Rattle.qsotrip.proofs.Counted.{takes, news, merged-few, merged-good}
 use Rattle.qsotrip.proofs.Slots.{slots, columns-laid, laid-value, columns-rise, columns-few, columns-good}
 use Rattle.qsotrip.proofs.Held.{qso-held}
 
-refused-not : (why : Refusal) → Refused why ≡ Accepted → ⊥
-refused-not why e = let z : _≡_ {A = ℕ} 0 1 = cc in omega arith
-
--- a test that passed, and what is asked then
-passed : (why : Refusal) (t : Bool) (v : Verdict) → pick t v (Refused why) ≡ Accepted → t ≡ true
-passed why true v e = refl
-passed why false v e = absurd (refused-not why e)
-
-onward : (why : Refusal) (t : Bool) (v : Verdict) → pick t v (Refused why) ≡ Accepted → v ≡ Accepted
-onward why true v e = e
-onward why false v e = absurd (refused-not why e)
-
+-- a test that did not stop it
 onward-not : (why : Refusal) (t : Bool) (v : Verdict) → pick t (Refused why) v ≡ Accepted → (t ≡ false) × (v ≡ Accepted)
 onward-not why true v e = absurd (refused-not why e)
 onward-not why false v e = (refl, e)
@@ -67,7 +58,7 @@ module _ (text : List ℕ) (small : length text ≤ 16777216) (fs : List Field) 
   unfolding sound
   row-good r s can =
       record {
-        trim = trim-raised (nameIn text r) ∙ ap capitals (name-trim (nameIn text r) can);
+        trim = trim-capitals (nameIn text r) ∙ ap capitals (name-trim (nameIn text r) can);
         capital = capitals-twice (nameIn text r);
         no-colon = without-raised colon (nameIn text r) (omega arith) (name-colon (nameIn text r) can);
         no-gt = without-raised gt (nameIn text r) (omega arith) (name-gt (nameIn text r) can);

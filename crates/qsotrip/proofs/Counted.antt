@@ -17,11 +17,12 @@ use Rattle.adif.specs.Grammar.{Field}
 use Rattle.adif.specs.Limits.{Ascending}
 use Rattle.trip.specs.File.{Good, AllGood}
 use Rattle.trip.proofs.Means.{named}
+use Rattle.trip.proofs.Fronts.{Above, above-trans}
 use Rattle.columns.specs.Columns.{isColumn}
 use Rattle.mapping.specs.Contact.{extraFields}
 use Rattle.qsowriter.specs.Record.{below, above, merged}
 use Rattle.qsotrip.specs.Rewritten.{Each, NoColumn}
-use Rattle.qsotrip.proofs.Merged.{differ, differ-greater, Above, above-trans, rising-above, below-less, below-equal, below-greater, above-less, above-equal, above-greater, rest-rises}
+use Rattle.qsotrip.proofs.Merged.{differ, differ-greater, rising-above, below-less, below-equal, below-greater, above-less, above-equal, above-greater, rest-rises}
 
 -- ---- a law of each field
 module _ (P : Field → Type 0) where

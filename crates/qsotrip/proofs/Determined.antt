@@ -16,6 +16,7 @@ use Rattle.letters.proofs.SameLaws.{same-refl, same-true, same-raised-true}
 use Rattle.letters.proofs.OrderLaws.{order-equal, order-turn}
 use Rattle.adif.specs.Grammar.{Field}
 use Rattle.adif.specs.Limits.{Ascending}
+use Rattle.trip.proofs.Fronts.{above-trans}
 use Rattle.tables.specs.Table.{firstFrom, named as namedIn, isFound}
 use Rattle.tables.specs.declared.Found.{Found}
 use Rattle.tables.specs.declared.Found.the-variants.{At, Nothing}
@@ -25,7 +26,7 @@ use Rattle.columns.specs.Columns.{columnNames, columnNamed, isColumn}
 use Rattle.columns.proofs.LaidLaws.{found-within, column-below}
 use Rattle.mapping.specs.Contact.{valueNamed, columnValue}
 use Rattle.qsotrip.specs.Rewritten.{Each, InCapitals, Rewritten}
-use Rattle.qsotrip.proofs.Merged.{rising-above, above-trans, above-none}
+use Rattle.qsotrip.proofs.Merged.{rising-above, above-none}
 
 -- ---- fields whose names rise are told by their values
 here : (n : List ℕ) (f : Field) (fs : List Field) → f .name ≡ n → valueNamed n (f ∷ fs) ≡ some (f .value)

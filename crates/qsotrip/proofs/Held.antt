@@ -2,7 +2,7 @@
 -- Assumes nothing.
 use mathlib.Core.Path.{_≡_, refl, sym, _∙_}
 use mathlib.Core.Bool.{Bool, true, false}
-use mathlib.Core.List.{List, [], _∷_, _++_}
+use mathlib.Core.List.{List, [], _∷_}
 use mathlib.Core.Option.{Option, none, some}
 use Prim.Native.Nat.{ℕ, zero, suc, _+_, _/_, _%_, _≤_, _<_}
 use native.Mathlib.Omega.{arith}
@@ -14,9 +14,11 @@ use Rattle.text.specs.Pick.{pick, both, either}
 use Rattle.text.specs.Utf8.{charLen, longChar, second3, second4, validUpTo, utf8, Utf8}
 use Rattle.text.specs.Walk.{lead}
 use Rattle.text.proofs.AppendLaws.{Ascii, utf8-append, utf8-ascii}
+use Rattle.text.proofs.BoolLaws.{both-left, both-right}
 use Rattle.letters.specs.Capitals.{raised, capitals}
-use Rattle.decimal.specs.Digits.{digits, decimal}
+use Rattle.decimal.specs.Digits.{decimal}
 use Rattle.decimal.proofs.ReadBack.{Digits, digits-append}
+use Rattle.output.proofs.DigitLaws.{decimal-few}
 use Rattle.mhz.specs.Digits.{lastDigits}
 use Rattle.mhz.specs.Writing.{sixDecimals, mhzText}
 use Rattle.mhz.proofs.WriteLaws.{length-last}
@@ -25,7 +27,7 @@ use Rattle.tables.specs.Bands.{bands, bandNames}
 use Rattle.tables.specs.Modes.{modes, modeNames}
 use Rattle.tables.specs.Place.{inText, part, value, orEmpty}
 use Rattle.tables.specs.declared.Place.{Place}
-use Rattle.tables.proofs.Tested.{both-left, both-right, all}
+use Rattle.tables.proofs.Tested.{all}
 use Rattle.normalize.specs.Normal.{unlessEmpty}
 use Rattle.trip.proofs.Raised.{good-raised}
 use Rattle.trip.proofs.Lengths.{decimal-ascii}
@@ -115,19 +117,6 @@ digits-ascii : (xs : List ℕ) → Digits xs → Ascii xs
 digits-ascii [] d = tt
 digits-ascii (x ∷ xs) d = (omega (arith, d .0 .1), digits-ascii xs (d .1))
 
-digits-short : (k n : ℕ) → length (digits k n) ≤ k
-unfolding digits
-digits-short zero n = omega arith
-digits-short (suc k) n = by (ltb n 10) (digits-short k (n / 10))
-  where
-    by : (t : Bool) → length (digits k (n / 10)) ≤ k → length (pick t ((0x30 + n) ∷ []) (digits k (n / 10) ++ ((0x30 + n % 10) ∷ []))) ≤ suc k
-    by true i = omega arith
-    by false i = omega (arith, length-append (digits k (n / 10)) ((0x30 + n % 10) ∷ []))
-
-decimal-short : (n : ℕ) → length (decimal n) ≤ 20
-unfolding decimal
-decimal-short n = digits-short 20 n
-
 last-digits : (k n : ℕ) → Digits (lastDigits k n)
 last-digits zero n = tt
 last-digits (suc k) n = digits-append (lastDigits k (n / 10)) ((0x30 + n % 10) ∷ []) (last-digits k (n / 10)) ((omega arith, omega arith), tt)
@@ -138,7 +127,7 @@ mhz-held hz =
     let six : List ℕ = lastDigits 6 (hz % 1000000) in (
       utf8-append (decimal (hz / 1000000)) (0x2E ∷ six) (utf8-ascii (decimal (hz / 1000000)) (decimal-ascii (hz / 1000000)))
           (utf8-ascii (0x2E ∷ six) (omega arith, digits-ascii six (last-digits 6 (hz % 1000000)))),
-      omega (arith, length-append (decimal (hz / 1000000)) (0x2E ∷ six), decimal-short (hz / 1000000), length-last 6 (hz % 1000000)),
+      omega (arith, length-append (decimal (hz / 1000000)) (0x2E ∷ six), decimal-few (hz / 1000000), length-last 6 (hz % 1000000)),
     )
 
 megahertz-held : (f : Option ℕ) → Held (megahertz f)
@@ -146,8 +135,8 @@ megahertz-held none = tt
 megahertz-held (some hz) = mhz-held hz
 
 signed-held : (n : ℤ) → Held (some (signedText n))
-signed-held (pos n) = (utf8-ascii (decimal n) (decimal-ascii n), omega (arith, decimal-short n))
-signed-held (negsuc n) = (utf8-ascii (0x2D ∷ decimal (suc n)) (omega arith, decimal-ascii (suc n)), omega (arith, decimal-short (suc n)))
+signed-held (pos n) = (utf8-ascii (decimal n) (decimal-ascii n), omega (arith, decimal-few n))
+signed-held (negsuc n) = (utf8-ascii (0x2D ∷ decimal (suc n)) (omega arith, decimal-ascii (suc n)), omega (arith, decimal-few (suc n)))
 
 entity-held : (n : Option ℤ) → Held (entityText n)
 entity-held none = tt

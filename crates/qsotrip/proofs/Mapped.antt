@@ -8,14 +8,16 @@ use Prim.Native.Nat.{ℕ}
 use native.Mathlib.Omega.{arith}
 use Rattle.text.specs.Ascii.{ascii}
 use Rattle.text.specs.Pick.{pick}
+use Rattle.text.proofs.BoolLaws.{both-left, both-right}
 use Rattle.letters.specs.Capitals.{raised, capitals}
 use Rattle.letters.specs.Same.{same, sameRaised}
 use Rattle.letters.proofs.SameLaws.{same-true}
 use Rattle.adif.specs.Grammar.{Field}
 use Rattle.adif.specs.Limits.{Ascending}
+use Rattle.trip.proofs.Fronts.{Above}
 use Rattle.tables.specs.Table.{named as namedIn}
 use Rattle.tables.specs.Place.{orEmpty}
-use Rattle.tables.proofs.Tested.{both-left, both-right, all}
+use Rattle.tables.proofs.Tested.{all}
 use Rattle.normalize.specs.Normal.{unlessEmpty}
 use Rattle.trip.proofs.Means.{named}
 use Rattle.columns.specs.Columns
@@ -24,7 +26,7 @@ use Rattle.model.specs.Contact.{Contact}
 use Rattle.mapping.specs.Contact.{valueNamed, columnValue, extraFields, contactOf}
 use Rattle.qsowriter.specs.Record.{given, megahertz, splitOnly, entityText, columnFields, recordOf}
 use Rattle.qsotrip.specs.Rewritten.{Each, InCapitals, NoColumn, Rewritten, readBack}
-use Rattle.qsotrip.proofs.Merged.{Above, rising-above, above-rising, merged-rises, orValue, no-other, merged-value}
+use Rattle.qsotrip.proofs.Merged.{rising-above, above-rising, merged-rises, orValue, no-other, merged-value}
 use Rattle.qsotrip.proofs.Counted.{IsColumn, each-merged, merged-extra}
 use Rattle.qsotrip.proofs.Slots.{Slot, laid, slots, found, columns-laid, laid-value, columns-rise, columns-are}
 

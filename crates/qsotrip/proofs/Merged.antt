@@ -12,20 +12,15 @@ use Rattle.letters.specs.Order.{order}
 use Rattle.letters.specs.declared.Order.{Order}
 use Rattle.letters.specs.declared.Order.the-variants.{Less, Equal, Greater}
 use Rattle.letters.proofs.SameLaws.{same-refl, same-true}
-use Rattle.letters.proofs.OrderLaws.{order-refl, order-equal, order-turn, order-flip, order-trans}
+use Rattle.letters.proofs.OrderLaws.{order-refl, order-equal, order-turn, order-flip}
 use Rattle.adif.specs.Grammar.{Field}
 use Rattle.adif.specs.Limits.{Ascending}
-use Rattle.rowcheck.specs.Check.{isLess}
 use Rattle.trip.proofs.Means.{named}
+use Rattle.trip.proofs.Fronts.{Above, above-trans}
 use Rattle.mapping.specs.Contact.{valueNamed}
 use Rattle.qsowriter.specs.Record.{below, above, merged}
 
 -- ---- two names, by their order
-pub less : (o : Order) → isLess o ≡ true → o ≡ Less
-less Less e = refl
-less Equal e = absurd (let z : _≡_ {A = ℕ} 0 1 = cc in omega arith)
-less Greater e = absurd (let z : _≡_ {A = ℕ} 0 1 = cc in omega arith)
-
 pub differ : (x y : List ℕ) → order x y ≡ Less → same x y ≡ false
 differ x y h = by (same x y) refl
   where
@@ -48,14 +43,6 @@ alike : (x y : List ℕ) → order x y ≡ Equal → same x y ≡ true
 alike x y h = rw (order-equal x y h) (same-refl y)
 
 -- ---- every name is above one
-abbrev pub Above : List ℕ → List Field → Type 0
-Above m [] = Unit {0}
-Above m (f ∷ fs) = (order m (f .name) ≡ Less) × Above m fs
-
-pub above-trans : (m n : List ℕ) → order m n ≡ Less → (fs : List Field) → Above n fs → Above m fs
-above-trans m n h [] a = tt
-above-trans m n h (f ∷ fs) a = (order-trans m n (f .name) h (a .0), above-trans m n h fs (a .1))
-
 pub rising-above : (f : Field) (fs : List Field) → Ascending named (f ∷ fs) → Above (f .name) fs
 rising-above f [] a = tt
 rising-above f (g ∷ fs) a = (a .0, above-trans (f .name) (g .name) (a .0) fs (rising-above g fs (a .1)))

@@ -10,6 +10,7 @@ use lib.Dec.{eqb, leb, ltb}
 use lib.ListN.{length}
 use Rattle.text.specs.Ascii.{ascii}
 use Rattle.text.specs.Pick.{pick, both, either}
+use Rattle.text.proofs.BoolLaws.{both-left, both-right}
 use Rattle.letters.specs.Capitals.{raised, capitals}
 use Rattle.letters.specs.Same.{same, sameRaised}
 use Rattle.letters.specs.Order.{order, orderRaised}
@@ -22,8 +23,8 @@ use Rattle.refusals.specs.declared.Verdict.the-variants.{Accepted, Refused}
 use Rattle.adif.specs.Grammar.{Field}
 use Rattle.adif.specs.Limits.{Ascending}
 use Rattle.rowcheck.specs.Check.{Row, recordIn, nameIn, isLess}
-use Rattle.tables.specs.Place.{part, orEmpty}
-use Rattle.tables.proofs.Tested.{both-left, both-right}
+use Rattle.rowcheck.proofs.FineLaws.{less}
+use Rattle.tables.specs.Place.{part, orEmpty, valuePlace}
 use Rattle.writer.specs.Rows.{rowsFrom, rowField}
 use Rattle.trip.proofs.Means.{named}
 use Rattle.columns.specs.Columns
@@ -33,12 +34,11 @@ use Rattle.model.specs.Answer.{noFrequency, emptyQso, accepted, refused}
 use Rattle.model.specs.declared.Answer.{Answer}
 use Rattle.model.specs.declared.Qso.{Qso}
 use Rattle.mapping.specs.Contact.{valueNamed, columnValue, contactOf}
-use Rattle.mapping.specs.Mapping.{valuePlace, placeNamed, columnsOf, extraRows, hertzAt, isOutside, frequencyOf, qsoWith, answerWith, answerOver, mapped, isRow, rises, goesOn, isRecord, mappedTo}
+use Rattle.mapping.specs.Mapping.{placeNamed, columnsOf, extraRows, hertzAt, isOutside, frequencyOf, qsoWith, answerWith, answerOver, mapped, isRow, rises, goesOn, isRecord, mappedTo}
 use Rattle.mapping.proofs.AnswerLaws.{no-hertz}
 use Rattle.meaning.proofs.MappingMeaning.{mapped-means}
 use Rattle.qsowriter.specs.Record.{megahertz}
 use Rattle.qsotrip.specs.Rewritten.{Each, InCapitals, Survives}
-use Rattle.qsotrip.proofs.Merged.{less}
 
 module _ (text : List ℕ) where
   abbrev pub saidBy : List Row → List Field

@@ -13,6 +13,7 @@ use Rattle.text.specs.Find.{other}
 use Rattle.text.specs.Space.{space1, space2, space3, space80, spaceLen, spaceBack, width, trimStart, trimEnd}
 use Rattle.text.specs.Utf8.{charLen, longChar, second3, second4, validUpTo, utf8, Utf8}
 use Rattle.text.specs.Walk.{ends, lead}
+use Rattle.text.proofs.BoolLaws.{both-left, both-right}
 use Rattle.letters.specs.Capitals.{raised, capitals}
 use Rattle.letters.specs.Same.{same, sameRaised}
 use Rattle.letters.specs.Order.{order}
@@ -21,8 +22,10 @@ use Rattle.tags.specs.Tags.{kindOf}
 use Rattle.adif.specs.Grammar.{Field}
 use Rattle.adif.specs.Limits.{Ascending}
 use Rattle.rowcheck.specs.Check.{isLess, lacks, writable}
+use Rattle.rowcheck.proofs.FineLaws.{less}
+use Rattle.trip.proofs.Fronts.{Above}
 use Rattle.tables.specs.Table.{named as namedIn}
-use Rattle.tables.proofs.Tested.{both-left, both-right, all, pairs}
+use Rattle.tables.proofs.Tested.{all, pairs}
 use Rattle.normalize.specs.Normal.{unlessEmpty}
 use Rattle.trip.specs.File.{Good, AllGood}
 use Rattle.trip.proofs.Means.{named}
@@ -31,7 +34,7 @@ use Rattle.columns.specs.Columns.{columnNames, columnNamed, isColumn}
 use Rattle.model.specs.Contact.{Contact}
 use Rattle.mapping.specs.Contact.{valueNamed}
 use Rattle.qsowriter.specs.Record.{given, megahertz, splitOnly, entityText, columnFields}
-use Rattle.qsotrip.proofs.Merged.{less, Above, above-rising, orValue}
+use Rattle.qsotrip.proofs.Merged.{above-rising, orValue}
 use Rattle.qsotrip.specs.Rewritten.{Each}
 use Rattle.qsotrip.proofs.Counted.{IsColumn}
 

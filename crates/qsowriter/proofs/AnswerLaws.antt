@@ -6,7 +6,7 @@ use Prim.Native.Nat.{ℕ, _+_, _*_, _/_, _≤_, _<_}
 use native.Mathlib.Omega.{arith}
 use lib.Dec.{leb}
 use lib.ListN.{length}
-use borrow.Author.Tests.{le-leb, lt-leb, leb-true, leb-false, not-true, not-false}
+use borrow.Author.Tests.{le-leb, lt-leb, leb-true, not-true, not-false}
 use Rattle.text.specs.Pick.{pick, both, either}
 use Rattle.text.proofs.BoolLaws.{both-left, both-right}
 use Rattle.refusals.specs.Written.{fitted, outputBy}
@@ -19,9 +19,10 @@ use Rattle.refusals.specs.declared.Written.the-variants.{Bytes, Unwritten}
 use Rattle.refusals.proofs.WrittenLaws.{fits}
 use Rattle.output.specs.Put.{Put, Room}
 use Rattle.headers.specs.Answer.{capped}
-use Rattle.headers.proofs.SizeLaws.{cap-small, cap-large}
+use Rattle.headers.proofs.AnswerLaws.{capped-fit}
 use Rattle.writer.specs.Rows.{rowsOf}
 use Rattle.writer.specs.Answer.{sizedBy}
+use Rattle.writer.proofs.AnswerLaws.{sized}
 use Rattle.model.specs.Answer.{isQso}
 use Rattle.model.specs.declared.Qso.{Qso}
 use Rattle.cells.specs.Cells.{columnOrder, cellsOf, cellFields}
@@ -120,21 +121,9 @@ module _ (v : Verdict) where
       rw (a, ← b) (ap Bytes er)
 
 -- ---- written
-capped-fit : (k room : ℕ) → fitted (Bytes (capped k)) room ≡ fitted (Bytes k) room
-unfolding fitted
-capped-fit k room = by (leb k 16777216) refl
-  where
-    by : (t : Bool) → leb k 16777216 ≡ t → fitted (Bytes (capped k)) room ≡ fitted (Bytes k) room
-    by true q = ap (λ (j : ℕ). fitted (Bytes j) room) (sym (cap-small k (leb-true k 16777216 q)))
-    by false q = rw (← cap-large k (leb-false k 16777216 q), q) refl
-
 sized-fit : (v : Verdict) (k room : ℕ) → fitted (sizedBy v (capped k)) room ≡ fitted (sizedBy v k) room
 sized-fit Accepted k room = capped-fit k room
 sized-fit (Refused why) k room = refl
-
-sized : (v : Verdict) (m n : ℕ) → sizedBy v m ≡ Bytes n → (v ≡ Accepted) × (n ≡ m)
-sized Accepted m n e = (refl, cc)
-sized (Refused why) m n e = absurd (let z : _≡_ {A = ℕ} 0 1 = cc in omega arith)
 
 module _ (text : List ℕ) (q : Qso) (t : List ℕ) (count : ℕ) (was : List ℕ) (cells : List Cell) (ec : cells ≡ cellsOf text q)
     (m : Written) (em : m ≡ sizedBy (qsoVerdict text q t count) (capped (length (qsoText text q (rowsOf t count))))) (f : Written) (ef : f ≡ fitted m (length was)) where

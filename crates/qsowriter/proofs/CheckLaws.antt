@@ -7,7 +7,7 @@ use native.Mathlib.Nat.{sub-zero}
 use native.Mathlib.Omega.{arith}
 use lib.Dec.{leb}
 use lib.ListN.{length, getD}
-use borrow.Author.Tests.{not-true, not-false, le-leb}
+use borrow.Author.Tests.{not-true, le-leb}
 use Rattle.text.specs.Pick.{pick, both, either}
 use Rattle.letters.specs.Order.{orderRaised}
 use Rattle.refusals.specs.declared.Refusal.{Refusal}
@@ -16,7 +16,7 @@ use Rattle.refusals.specs.declared.Verdict.{Verdict}
 use Rattle.refusals.specs.declared.Verdict.the-variants.{Accepted, Refused}
 use Rattle.adif.specs.Grammar.{Field}
 use Rattle.rowcheck.specs.Check.{Row, recordIn, nameIn, placed, sound, isLess, follows, writable, counted, verdict, isFine, andThen}
-use Rattle.rowcheck.proofs.FineLaws.{few-names}
+use Rattle.rowcheck.proofs.FineLaws.{few-names, fine}
 use Rattle.writer.specs.Rows.{rowAt, rowsFrom, rowsOf}
 use Rattle.writer.proofs.RowLaws.{rows-cons}
 use Rattle.cells.specs.Cells.{columnOrder, cellFields}
@@ -99,13 +99,6 @@ unfolding Checking
 check-end text cells t count n c p i h q =
     let z : count - i ≡ 0 = omega arith in
     sym (none-left text (cellFields text columnOrder cells) n c p) ∙ (rw z at q)
-
-fine : (v : Verdict) (f : Bool) → f ≡ isFine v → not f ≡ false → v ≡ Accepted
-fine v f e h = by v (sym e ∙ not-false f h)
-  where
-    by : (w : Verdict) → isFine w ≡ true → w ≡ Accepted
-    by Accepted e = refl
-    by (Refused why) e = absurd (let z : _≡_ {A = ℕ} 0 1 = cc in omega arith)
 
 stops : (v w : Verdict) → isFine v ≡ false → v ≡ andThen v w
 stops Accepted w e = absurd (let z : _≡_ {A = ℕ} 0 1 = cc in omega arith)

@@ -2,7 +2,7 @@
 use mathlib.Core.Path.{_≡_, refl, sym, ap, _∙_}
 use mathlib.Core.Bool.{Bool, true, false}
 use mathlib.Core.List.{List, [], _∷_, map}
-use Prim.Native.Nat.{ℕ, zero, suc, _+_, _≤_, _<_}
+use Prim.Native.Nat.{ℕ, zero, _+_, _≤_, _<_}
 use native.Mathlib.Numerals.{add-one}
 use native.Mathlib.Omega.{arith}
 use lib.ListN.{length, getD, take, drop, drop-of-length-le}
@@ -11,16 +11,16 @@ use Rattle.text.specs.Pick.{pick, both, either}
 use Rattle.text.proofs.BoolLaws.{both-left, both-right}
 use Rattle.letters.specs.Capitals.{raised, capitals}
 use Rattle.letters.specs.Same.{same, sameRaised}
-use Rattle.letters.proofs.CapitalLaws.{capitals-twice}
 use Rattle.letters.proofs.SameLaws.{same-true}
-use Rattle.tables.specs.Table.{firstFrom, named, isFound}
+use Rattle.tables.specs.Table.{named, isFound}
 use Rattle.tables.specs.declared.Name.{Name}
 use Rattle.columns.specs.Columns.{columnNames, columnNamed}
 use Rattle.adif.specs.Grammar.{Field}
+use Rattle.columns.proofs.ColumnLaws.{named-raised}
 use Rattle.cells.specs.Cells.{columnOrder, isDropped, cellText, cellFields}
 use Rattle.cells.specs.declared.Cell.{Cell}
 use Rattle.cellfields.specs.Fields.{nameAt, columnName}
-use Rattle.cellfields.proofs.NameLaws.{column-capital, column-front}
+use Rattle.cellfields.proofs.NameLaws.{column-capital, column-front, names-from}
 use Rattle.qsowriter.specs.Writing.{isTaken}
 use Rattle.qsowriter.specs.Steps.{takenBy, writtenCount}
 
@@ -51,14 +51,6 @@ unfolding sameRaised
 spelled-is k n e x r er = er ∙ rw (column-front k n e .1, column-capital k) refl
 
 -- ---- a name that is no column's is not taken
-alike : (f g : List ℕ → Bool) → ((n : List ℕ) → f n ≡ g n) → (j : ℕ) (ns : List (List ℕ)) → firstFrom f j ns ≡ firstFrom g j ns
-alike f g e j [] = refl
-alike f g e j (n ∷ ns) = rw (e n, alike f g e (suc j) ns) refl
-
-named-raised : (x : List ℕ) → columnNamed (capitals x) ≡ columnNamed x
-unfolding columnNamed named sameRaised
-named-raised x = alike (sameRaised (capitals x)) (sameRaised x) (λ n. rw (capitals-twice x) refl) 0 columnNames
-
 abbrev allColumns : List (List ℕ) → Bool
 allColumns [] = true
 allColumns (n ∷ ns) = both (isFound (columnNamed n)) (allColumns ns)
@@ -102,17 +94,13 @@ unfolding Looking columnOrder
 looking-end cells x k h p = rw (drop-of-length-le columnOrder h) at p
 
 module _ (cells : List Cell) (x : List ℕ) (k : ℕ) (l : length cells ≡ 13) (h : k < 13) (p : Looking cells x k) (d : Cell) (b : Bool) (eb : b ≡ isDropped (getD cells k d)) where
-  names : drop k columnOrder ≡ nameAt k ∷ drop (k + 1) columnOrder
-  unfolding nameAt columnOrder
-  names = rw add-one (drop-cons columnOrder k [] h)
-
   values : drop k cells ≡ getD cells k d ∷ drop (k + 1) cells
   values = rw add-one (drop-cons cells k d (omega arith))
 
   here : pick b (takenBy (drop (k + 1) columnOrder) (drop (k + 1) cells) x) (either (same (nameAt k) (capitals x)) (takenBy (drop (k + 1) columnOrder) (drop (k + 1) cells) x))
       ≡ takenBy columnOrder cells x
   unfolding Looking
-  here = rw eb (rw (names, values) at p)
+  here = rw eb (rw (names-from k h, values) at p)
 
   pub looking-dropped : b ≡ true → Looking cells x (k + 1)
   unfolding Looking

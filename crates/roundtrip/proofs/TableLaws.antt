@@ -14,6 +14,7 @@ use Rattle.adif.specs.Grammar.{Field}
 use Rattle.adif.specs.Reading as reading
 use Rattle.adif.specs.Reading.{rowName, rowValue, readText}
 use Rattle.adif.specs.Told.{fieldOf}
+use Rattle.adif.proofs.Mapped.{total-map}
 use Rattle.hand.specs.Rows.{numbered, laid}
 use Rattle.reader.specs.Table.{laidFrom, zeros, answerOf, tableOf, answerTo, tableAfter}
 use Rattle.reader.specs.declared.Reading.the-variants.{Read}
@@ -102,10 +103,6 @@ joined-total false r (g ∷ gs) = omega arith
 grouped-total : (rs : List Row) → total (grouped rs) ≡ length rs
 grouped-total [] = refl
 grouped-total (r ∷ rs) = joined-total (endsBefore (recordIn r) rs) r (grouped rs) ∙ ap suc (grouped-total rs)
-
-total-map : {F G : Type 0} (f : F → G) (rs : List (List F)) → total (map (map f) rs) ≡ total rs
-total-map f [] = refl
-total-map f (r ∷ rs) = rw (length-map r f, total-map f rs) refl
 
 rows-count : (t : List ℕ) (i k : ℕ) → length (rowsFrom t i k) ≡ k
 rows-count t i zero = refl

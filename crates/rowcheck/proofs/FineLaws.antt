@@ -1,13 +1,14 @@
 -- What holds of a row that the writer takes. Assumes nothing.
 use mathlib.Core.Path.{_≡_, refl, sym, ap, _∙_}
-use mathlib.Core.Bool.{Bool, true, false}
+use mathlib.Core.Bool.{Bool, true, false, not}
 use mathlib.Core.List.{List}
 use Prim.Native.Nat.{ℕ, zero, suc, _+_, _*_, _≤_, _<_}
 use native.Mathlib.Omega.{arith}
 use lib.ListN.{length, getD}
 use lib.Dec.{leb, ltb, eqb}
-use borrow.Author.Tests.{eqb-true, eqb-false, leb-true, ltb-true, eq-eqb, ne-eqb}
+use borrow.Author.Tests.{eqb-true, eqb-false, leb-true, ltb-true, eq-eqb, ne-eqb, not-false}
 use Rattle.text.specs.Pick.{pick, both, either}
+use Rattle.text.proofs.BoolLaws.{both-left, both-right}
 use Rattle.letters.specs.Order.{orderRaised}
 use Rattle.letters.specs.declared.Order.{Order}
 use Rattle.letters.specs.declared.Order.the-variants.{Less, Equal, Greater}
@@ -15,25 +16,24 @@ use Rattle.refusals.specs.declared.Refusal.{Refusal}
 use Rattle.refusals.specs.declared.Refusal.the-variants.{BadRow, BadName, ManyNames, ManyRecords}
 use Rattle.refusals.specs.declared.Verdict.{Verdict}
 use Rattle.refusals.specs.declared.Verdict.the-variants.{Accepted, Refused}
-use Rattle.rowcheck.specs.Check.{Row, recordIn, nameIn, placed, sound, isLess, follows, writable, counted, verdict, andThen}
+use Rattle.rowcheck.specs.Check.{Row, recordIn, nameIn, placed, sound, isLess, follows, writable, counted, verdict, andThen, isFine}
 
-pub both-first : (a b : Bool) → both a b ≡ true → a ≡ true
-both-first true b e = refl
-both-first false b e = e
-
-pub both-second : (a b : Bool) → both a b ≡ true → b ≡ true
-both-second true b e = e
-both-second false b e = absurd (let z : _≡_ {A = ℕ} 0 1 = cc in omega arith)
-
-refused-not : (why : Refusal) → Refused why ≡ Accepted → ⊥
+pub refused-not : (why : Refusal) → Refused why ≡ Accepted → ⊥
 refused-not why e = let z : _≡_ {A = ℕ} 0 1 = cc in omega arith
 
+pub fine : (v : Verdict) (f : Bool) → f ≡ isFine v → not f ≡ false → v ≡ Accepted
+fine v f e h = by v (sym e ∙ not-false f h)
+  where
+    by : (w : Verdict) → isFine w ≡ true → w ≡ Accepted
+    by Accepted e = refl
+    by (Refused why) e = absurd (let z : _≡_ {A = ℕ} 0 1 = cc in omega arith)
+
 -- a test that passed
-passed : (why : Refusal) (t : Bool) (v : Verdict) → pick t v (Refused why) ≡ Accepted → t ≡ true
+pub passed : (why : Refusal) (t : Bool) (v : Verdict) → pick t v (Refused why) ≡ Accepted → t ≡ true
 passed why true v e = refl
 passed why false v e = absurd (refused-not why e)
 
-onward : (why : Refusal) (t : Bool) (v : Verdict) → pick t v (Refused why) ≡ Accepted → v ≡ Accepted
+pub onward : (why : Refusal) (t : Bool) (v : Verdict) → pick t v (Refused why) ≡ Accepted → v ≡ Accepted
 onward why true v e = e
 onward why false v e = absurd (refused-not why e)
 
@@ -45,7 +45,7 @@ pub rest-fine : (v w : Verdict) → andThen v w ≡ Accepted → w ≡ Accepted
 rest-fine Accepted w e = e
 rest-fine (Refused why) w e = absurd (refused-not why e)
 
-less : (o : Order) → isLess o ≡ true → o ≡ Less
+pub less : (o : Order) → isLess o ≡ true → o ≡ Less
 less Less e = refl
 less Equal e = absurd (let z : _≡_ {A = ℕ} 0 1 = cc in omega arith)
 less Greater e = absurd (let z : _≡_ {A = ℕ} 0 1 = cc in omega arith)
@@ -120,18 +120,18 @@ module _ (text : List ℕ) (n c : ℕ) (p r : Row) (v : verdict text n c p r ≡
 
   pub higher : n ≡ recordIn r → orderRaised (nameIn text p) (nameIn text r) ≡ Less
   higher e =
-      cases (orderRaised (nameIn text p) (nameIn text r) ≡ Less) (λ z. absurd (omega arith)) (λ f. less (orderRaised (nameIn text p) (nameIn text r)) (both-second same-record higher-name f))
+      cases (orderRaised (nameIn text p) (nameIn text r) ≡ Less) (λ z. absurd (omega arith)) (λ f. less (orderRaised (nameIn text p) (nameIn text r)) (both-right same-record higher-name f))
 
   pub next-number : (n ≡ recordIn r → ⊥) → recordIn r ≡ n + 1
   next-number e =
-      cases (recordIn r ≡ n + 1) (λ z. z) (λ f. absurd (e (sym (eqb-true (recordIn r) n (both-second (ltb 0 n) (eqb (recordIn r) n) (both-first same-record higher-name f))))))
+      cases (recordIn r ≡ n + 1) (λ z. z) (λ f. absurd (e (sym (eqb-true (recordIn r) n (both-right (ltb 0 n) (eqb (recordIn r) n) (both-left same-record higher-name f))))))
 
   pub from-one : 0 < recordIn r
   from-one =
       cases (0 < recordIn r) (λ z. omega arith)
       (λ f.
-      let g : same-record ≡ true = both-first same-record higher-name f in
-      omega (arith, ltb-true 0 n (both-first (ltb 0 n) (eqb (recordIn r) n) g), eqb-true (recordIn r) n (both-second (ltb 0 n) (eqb (recordIn r) n) g)))
+      let g : same-record ≡ true = both-left same-record higher-name f in
+      omega (arith, ltb-true 0 n (both-left (ltb 0 n) (eqb (recordIn r) n) g), eqb-true (recordIn r) n (both-right (ltb 0 n) (eqb (recordIn r) n) g)))
 
   pub counted-on : n ≡ recordIn r → counted n c r ≡ c + 1
   unfolding counted

@@ -45,7 +45,7 @@ halves : (x : ℕ) → joined (low x) (high x) ≡ x
 unfolding low high
 halves x = omega (arith, div-add-mod' x 4294967296)
 
-moment-back : (m : Moment) → momentFrom (hasMoment m) (joined (low (secondsIn m)) (high (secondsIn m))) ≡ m
+pub moment-back : (m : Moment) → momentFrom (hasMoment m) (joined (low (secondsIn m)) (high (secondsIn m))) ≡ m
 unfolding momentFrom hasMoment secondsIn
 moment-back (At x) = rw (halves x) refl
 moment-back Never = refl

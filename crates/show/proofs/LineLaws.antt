@@ -13,7 +13,7 @@ use Rattle.text.specs.Ascii.{ascii}
 use Rattle.decimal.specs.Digits.{decimal}
 use Rattle.output.specs.Put.{Put, Room}
 use Rattle.output.proofs.PutLaws.{put-none, put-then, put-length, put-next, room-first, room-next}
-use Rattle.summary.proofs.SizeLaws.{few-decimals}
+use Rattle.output.proofs.DigitLaws.{few-decimals}
 use Rattle.chain.specs.Chain.{col}
 use Rattle.show.specs.Shown.{fateName, blank, newline, lineOf, linesOf}
 

@@ -9,8 +9,7 @@ use Rattle.adif.specs.Grammar.{Field}
 use Rattle.fields.specs.Written.{fieldText, fieldsText, endOfHeader}
 use Rattle.fields.specs.Parts.{fieldAs}
 use Rattle.output.specs.Put.{Put, Room}
-use Rattle.output.proofs.PutLaws.{put-none, put-then, room-first, room-next}
-use Rattle.fields.proofs.FieldLaws.{room-second, room-third, put-three}
+use Rattle.output.proofs.PutLaws.{put-none, put-then, room-first, room-next, room-second, room-third, put-three}
 use Rattle.station.specs.Station.{myCounty, myCqZone, myGridsquare, myItuZone, myName, myState, operator, stationCallsign, given, stationFields, stationText, filled}
 
 -- ---- a station's fields

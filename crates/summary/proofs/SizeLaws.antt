@@ -1,19 +1,14 @@
 -- How long the parts of the line are. Assumes nothing.
 use mathlib.Core.Path.{_≡_, refl, sym, ap, _∙_}
 use mathlib.Core.List.{List, [], _∷_, _++_}
-use Prim.Native.Nat.{ℕ, _+_, _≤_, _<_}
+use Prim.Native.Nat.{ℕ, _+_, _<_}
 use native.Mathlib.Omega.{arith}
 use lib.ListN.{length, length-append}
 use Rattle.text.specs.Ascii.{ascii}
 use Rattle.decimal.specs.Digits.{digits, decimal}
-use Rattle.output.proofs.DigitLaws.{few-digits}
 use Rattle.summary.specs.declared.Counts.{Counts}
 use Rattle.summary.specs.Summary.{counted, dot, further, part, found, confirmed, leftOut, summaryText}
 use Rattle.summary.proofs.LineLaws.{counted-one, counted-many, part-none, part-some}
-
-pub few-decimals : (n d : ℕ) → d ≡ length (decimal n) → d ≤ 20
-unfolding decimal
-few-decimals n d e = omega (arith, few-digits 20 n)
 
 module _ (n : ℕ) (one many : List ℕ) where
   module _ (d : ℕ) (p : d ≡ length (decimal n)) where

@@ -16,6 +16,8 @@ use Rattle.tables.proofs.places.band_entry.Reads as band-entry
 use Rattle.tables.proofs.places.band_entry.Kinds as band-entry-kinds
 use Rattle.tables.proofs.places.mode_entry.Reads as mode-entry
 use Rattle.tables.proofs.places.mode_entry.Kinds as mode-entry-kinds
+use Rattle.tables.proofs.places.value_place.Reads as value-place
+use Rattle.tables.proofs.places.value_place.Kinds as value-place-kinds
 use Rattle.tables.proofs.places.is_absent.Reads as is-absent
 use Rattle.tables.proofs.places.is_absent.Kinds as is-absent-kinds
 use Rattle.tables.proofs.places.in_text.Reads as in-text
@@ -71,6 +73,9 @@ band-entry-once κs a x y d e p q = p ∙ sym q
 
 mode-entry-once : Once 0 mode-entry-kinds.ps mode-entry-kinds.r mode-entry.Post
 mode-entry-once κs a x y d e p q = p ∙ sym q
+
+value-place-once : Once 0 value-place-kinds.ps value-place-kinds.r value-place.Post
+value-place-once κs a x y d e p q = p ∙ sym q
 
 is-absent-once : Once 0 is-absent-kinds.ps is-absent-kinds.r is-absent.Post
 is-absent-once κs a x y d e p q = p ∙ sym q

@@ -1,12 +1,14 @@
 -- Laws of the names of entries, and of what a look-up found. Assumes nothing.
 use mathlib.Core.Path.{_≡_, refl, _∙_}
-use mathlib.Core.Bool.{true, false}
+use mathlib.Core.Bool.{Bool, true, false}
 use mathlib.Core.List.{List, [], _∷_}
+use mathlib.Core.Option.{some}
 use Prim.Native.Nat.{ℕ, zero, suc, _≤_, _<_}
 use native.Mathlib.Nat.{not-suc-le-zero, le-of-suc-le-suc}
-use lib.ListN.{length, getD, List·getD-eq-default}
+use lib.ListN.{length, getD, take, List·getD-eq-default}
+use lib.Seq.{take-take, take-append-seam}
 use borrow.Author.Tests.{eq-eqb, ne-eqb}
-use Rattle.tables.specs.Table.{entry, isFound, Columns}
+use Rattle.tables.specs.Table.{entry, isFound, Columns, firstFrom}
 use Rattle.tables.specs.Bands.{bandNames}
 use Rattle.tables.specs.Modes.{modeNames}
 use Rattle.tables.specs.Place.{spelled, orEmpty, noName, nameAt, nameOf}
@@ -14,6 +16,21 @@ use Rattle.tables.specs.declared.Found.{Found}
 use Rattle.tables.specs.declared.Found.the-variants.{At, Nothing}
 use Rattle.tables.specs.declared.Name.{Name}
 use Rattle.tables.specs.declared.Place.{Place}
+
+-- ---- an entry of a list
+pub entry-in : (l : List (List ℕ)) (k : ℕ) → k < length l → entry l k ≡ some (getD l k [])
+entry-in [] k h = absurd (not-suc-le-zero h)
+entry-in (x ∷ xs) zero h = refl
+entry-in (x ∷ xs) (suc k) h = entry-in xs k (le-of-suc-le-suc h)
+
+-- ---- tests that agree find the same entry
+pub first-alike : (f g : List ℕ → Bool) → ((n : List ℕ) → f n ≡ g n) → (j : ℕ) (ns : List (List ℕ)) → firstFrom f j ns ≡ firstFrom g j ns
+first-alike f g e j [] = refl
+first-alike f g e j (n ∷ ns) = rw (e n, first-alike f g e (suc j) ns) refl
+
+-- ---- a name is the front of its twelve bytes
+pub spelled-out : (x : List ℕ) → length x ≤ 12 → take (spelled x .len) (spelled x .bytes) ≡ x
+spelled-out x h = take-take (length x) 12 _ h ∙ take-append-seam x _
 
 -- ---- entries past the end of the columns have no name
 pub no-entry : (names : List (List ℕ)) (lens : List ℕ) (k : ℕ) (r : Name) → Columns names lens → length names ≤ k → r ≡ noName → r ≡ nameAt names lens k

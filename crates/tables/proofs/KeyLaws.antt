@@ -11,13 +11,14 @@ use lib.ListN.{length, getD, drop, drop-of-length-le, length-map}
 use lib.Seq.{drop-cons}
 use borrow.Author.Tests.{eq-eqb, ne-eqb, eqb-true, lt-ltb, le-ltb, leb-true, ltb-true}
 use Rattle.text.specs.Pick.{pick, both, within}
+use Rattle.text.proofs.BoolLaws.{both-left, both-right}
 use Rattle.letters.specs.Capitals.{raised, capitals}
 use Rattle.letters.specs.Same.{same, sameRaised}
 use Rattle.letters.proofs.SameLaws.{same-refl, same-raised-true}
 use Rattle.tables.specs.Table.{firstFrom, named, digits, keyOf, Bytes, Keyed}
 use Rattle.tables.specs.declared.Found.{Found}
 use Rattle.tables.specs.declared.Found.the-variants.{At, Nothing}
-use Rattle.tables.proofs.Tested.{both-left, both-right, all}
+use Rattle.tables.proofs.Tested.{all}
 
 -- ---- the number that a list of digits is, the last first
 abbrev number : List ℕ → ℕ

@@ -13,11 +13,11 @@ use lib.Seq.{drop-nil}
 use borrow.Author.Tests.{le-leb, lt-leb, leb-true, ltb-true}
 use Rattle.text.specs.Pick.{both}
 use Rattle.text.proofs.Utf8Laws.{both-no}
+use Rattle.text.proofs.BoolLaws.{both-left, both-right}
 use Rattle.letters.specs.Same.{sameRaised}
 use Rattle.tables.specs.Table.{firstFrom, named, cut, entry, Columns}
 use Rattle.tables.specs.Bands.{Band, bounded, holds, below, apart}
 use Rattle.tables.specs.Place.{spelled, orEmpty, nameAt}
-use Rattle.tables.proofs.Tested.{both-left, both-right}
 use Rattle.tables.specs.declared.Found.{Found}
 use Rattle.tables.specs.declared.Found.the-variants.{At, Nothing}
 

@@ -36,6 +36,10 @@ bandEntry k = place 3 k 0
 abbrev pub modeEntry : ℕ → Place
 modeEntry k = place 4 k 0
 
+-- the place of the value in a row of five numbers: record, place and length of a name, place and length of a value
+abbrev pub valuePlace : List ℕ → Place
+valuePlace r = stands (getD r 3 0) (getD r 4 0)
+
 -- the place is in the text
 abbrev pub inText : Place → Bool
 inText p = either (eqb (p .kind) 1) (eqb (p .kind) 2)

@@ -2,7 +2,7 @@
 ghost use mathlib.Core.Path.{_≡_};
 ghost use Prim.Native.Nat.{_≤_};
 ghost use lib.ListN.{length, take, drop};
-ghost use Rattle.tables.specs.Place.{absent, stands, inCapitals, bandEntry, modeEntry, inText, part, nameOf};
+ghost use Rattle.tables.specs.Place.{absent, stands, valuePlace, inCapitals, bandEntry, modeEntry, inText, part, nameOf};
 ghost use Rattle.tables.specs.Place.{tidy, isAbsent, isEmpty, orElse, spelled, orEmpty};
 ghost use Rattle.tables.specs.Table.{entry};
 ghost use Rattle.tables.specs.Bands.{bandNames};
@@ -62,6 +62,13 @@ pub fn mode_entry(k: u32) -> Place
         start: k,
         len: 0,
     }
+}
+
+// Where the value of a row stands: record, place and length of a name, place and length of a value.
+pub fn value_place(row: [u32; 5]) -> Place
+    ensures { λ r. ⌜ r ≡ valuePlace row ⌝ }
+{
+    stands(row[3], row[4])
 }
 
 pub fn is_absent(p: Place) -> bool

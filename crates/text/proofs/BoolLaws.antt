@@ -1,7 +1,7 @@
 -- Laws of tests (`specs/Pick.antt`). Assumes nothing.
 use mathlib.Core.Path.{_≡_, refl, sym, _∙_}
 use mathlib.Core.Bool.{Bool, true, false, true≢false}
-use Rattle.text.specs.Pick.{both}
+use Rattle.text.specs.Pick.{both, either}
 
 -- by what a test says
 pub cases : {P : Type 0} (t : Bool) → (t ≡ true → P) → (t ≡ false → P) → P
@@ -22,3 +22,11 @@ both-right false b e = never false e refl
 
 pub both-true : (a b : Bool) → a ≡ true → b ≡ true → both a b ≡ true
 both-true a b p q = rw (p, q) refl
+
+pub either-none : (a : Bool) → either a false ≡ a
+either-none true = refl
+either-none false = refl
+
+pub either-either : (a b c : Bool) → either (either a b) c ≡ either a (either b c)
+either-either true b c = refl
+either-either false b c = refl

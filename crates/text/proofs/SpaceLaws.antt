@@ -1,6 +1,6 @@
 -- Laws of `specs/Space.antt`. Assumes nothing.
 use mathlib.Core.Path.{_≡_, refl, sym, ap, _∙_}
-use mathlib.Core.Bool.{Bool, true, false, not, true≢false}
+use mathlib.Core.Bool.{Bool, true, false, not}
 use mathlib.Core.Logic.{⊎-elim}
 use Prim.Native.Nat.{ℕ, suc, _+_, _-_, _≤_, _<_}
 use native.Mathlib.Nat.{le-refl, add-zero, zero-add, suc-ne-zero, not-suc-le-zero, le-of-suc-le-suc, eq-or-lt-of-le}
@@ -9,14 +9,14 @@ use mathlib.Core.List.{List, [], _∷_, reverse, reverse-cons}
 use lib.ListN.{length, take, drop, getD, length-drop, length-reverse, List·getD-append, List·getD-eq-default}
 use lib.Seq.{getD-drop, getD-at, take-all}
 use lib.Dec.{lit≤, eqb, leb}
-use borrow.Author.Tests.{eq-eqb, ne-eqb, lt-leb, leb-true}
+use borrow.Author.Tests.{not-false, eq-eqb, ne-eqb, lt-leb, leb-true}
 use Rattle.text.specs.Pick.{both, within}
 use Rattle.text.specs.Space.{space1, space2, space3, space80, spaceLen, spaceBack, width, trimStart, trimEnd, trimmed, blank}
 use Rattle.text.specs.Find.{other}
 use Rattle.text.specs.Walk.{ends, lead}
+use Rattle.text.proofs.BoolLaws.{both-left, both-right}
 use Rattle.text.proofs.Walks.{here, on, out, lead-le}
 use Rattle.text.proofs.Utf8Laws.{pick-le, both-no}
-use Rattle.text.proofs.BoolLaws.{both-left, both-right}
 
 module _ (s : List ℕ) (i n x y z : ℕ) (p q r : Bool) (ex : x ≡ getD s i 0) (ey : y ≡ getD s (i + 1) 0) (ez : z ≡ getD s (i + 2) 0) (ep : p ≡ space1 x) (e : n ≡ width p q r) where
   pub front : q ≡ space2 x y → r ≡ space3 x y z → n ≡ spaceLen (drop i s)
@@ -86,22 +86,22 @@ unfolding width
 one-le p = search small
 
 -- a byte that is 0 is in no white space
-none2 : (a : ℕ) → space2 a 0 ≡ false
+pub none2 : (a : ℕ) → space2 a 0 ≡ false
 unfolding space2
 none2 a = simp both-no
 
-none3 : (a b : ℕ) → space3 a b 0 ≡ false
+pub none3 : (a b : ℕ) → space3 a b 0 ≡ false
 unfolding space3 space80
 none3 a b = simp both-no
 
-front-within : (xs : List ℕ) → 0 < length xs → spaceLen xs ≤ length xs
+pub front-within : (xs : List ℕ) → 0 < length xs → spaceLen xs ≤ length xs
 unfolding spaceLen
 front-within [] h = absurd (not-suc-le-zero h)
 front-within (a ∷ []) h = rw (none2, none3) (one-le (space1 a))
 front-within (a ∷ b ∷ []) h = rw none3 (two-le (space1 a) (space2 a b))
 front-within (a ∷ b ∷ c ∷ r) h = omega (arith, three-le (space1 a) (space2 a b) (space3 a b c))
 
-back-within : (xs : List ℕ) → 0 < length xs → spaceBack xs ≤ length xs
+pub back-within : (xs : List ℕ) → 0 < length xs → spaceBack xs ≤ length xs
 unfolding spaceBack space2 space3
 back-within [] h = absurd (not-suc-le-zero h)
 back-within (a ∷ []) h = one-le (space1 a)
@@ -188,17 +188,13 @@ starts : (s : List ℕ) → 0 ≡ spaceLen (drop 0 s) → 0 ≡ trimStart s
 unfolding trimStart ends
 starts s e = here spaceLen s 0 0 (lead spaceLen s) e refl (simp zero-add)
 
-told : (t : Bool) → not t ≡ false → t ≡ true
-told true e = refl
-told false e = absurd (true≢false e)
-
 -- between two plain bytes nothing is trimmed
 pub trim-whole : (s : List ℕ) (x y : ℕ) (p q : Bool) → x ≡ getD s 0 0 → y ≡ getD (reverse s) 0 0
     → p ≡ within x 0x21 0x7F → q ≡ within y 0x21 0x7F → not p ≡ false → not q ≡ false → s ≡ trimmed s
 unfolding trimmed
 trim-whole s x y p q ex ey ep eq front-plain back-plain =
-    let front : 0 ≡ trimStart s = starts s (plain-front s 0 x p ex ep (told p front-plain)) in
-    let end : length s - 0 ≡ trimEnd s = end-here s 0 0 (plain-back (reverse s) 0 y q ey eq (told q back-plain)) refl (end-start s) in
+    let front : 0 ≡ trimStart s = starts s (plain-front s 0 x p ex ep (not-false p front-plain)) in
+    let end : length s - 0 ≡ trimEnd s = end-here s 0 0 (plain-back (reverse s) 0 y q ey eq (not-false q back-plain)) refl (end-start s) in
     rw (← front, ← end) (sym (take-all (length s - 0) s (omega arith)))
 
 pub blank-is : (s : List ℕ) (a : ℕ) → a ≡ trimStart s → eqb a (length s) ≡ blank s

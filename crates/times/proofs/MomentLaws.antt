@@ -10,6 +10,7 @@ use lib.Dec.{eqb, leb, ltb}
 use borrow.Author.Tests.{eq-eqb, ne-eqb, leb-true, not-true, not-false}
 use Rattle.text.specs.Pick.{pick, both, within}
 use Rattle.text.specs.Space.{trimmed}
+use Rattle.text.proofs.BoolLaws.{both-left, both-right}
 use Rattle.decimal.specs.Decimal.{allDigits, number, digitsAfter, digitsOf}
 use Rattle.decimal.specs.declared.Unsigned.{Unsigned}
 use Rattle.decimal.specs.declared.Unsigned.the-variants.{Is, Not}
@@ -18,7 +19,6 @@ use Rattle.times.specs.Moments.{dateOf, hundredfold, clockOf, isClock, s
 use Rattle.times.specs.Bounds.{Below}
 use Rattle.times.specs.declared.Moment.{Moment}
 use Rattle.times.specs.declared.Moment.the-variants.{At, Never}
-use Rattle.times.proofs.MonthLaws.{both-left, both-right}
 
 -- ---- digits make a number below ten to their count
 number-short : (n : ℕ) (ds : List ℕ) → allDigits ds ≡ true → number n ds < (n + 1) * 10 ^ length ds

@@ -10,16 +10,9 @@ use lib.ListN.{getD}
 use lib.Dec.{eqb, leb, ltb}
 use borrow.Author.Tests.{eqb-true, leb-true, le-leb, lt-leb, not-true, not-false, lt-ltb, le-ltb}
 use Rattle.text.specs.Pick.{pick, both, within}
+use Rattle.text.proofs.BoolLaws.{both-left, both-right}
 use Rattle.times.specs.Calendar.{leap, monthDays, daysBeforeYear, daysBeforeMonth, isDay, dayNumber}
 use Rattle.times.specs.Moments.{isClock}
-
-pub both-left : (a b : Bool) → both a b ≡ true → a ≡ true
-both-left true b e = refl
-both-left false b e = absurd (let z : _≡_ {A = ℕ} 0 1 = cc in omega arith)
-
-pub both-right : (a b : Bool) → both a b ≡ true → b ≡ true
-both-right true b e = e
-both-right false b e = absurd (let z : _≡_ {A = ℕ} 0 1 = cc in omega arith)
 
 -- a test of every number below n
 abbrev allBelow : (ℕ → Bool) → ℕ → Bool

@@ -8,11 +8,11 @@ use native.Mathlib.Omega.{arith}
 use lib.Dec.{leb, ltb}
 use borrow.Author.Tests.{leb-true, ltb-true, ltb-false}
 use Rattle.text.specs.Pick.{pick, both, within}
+use Rattle.text.proofs.BoolLaws.{both-left, both-right}
 use Rattle.times.specs.Calendar.{leap, yearDays, monthDays, daysBeforeYear, daysBeforeMonth, isDay, dayNumber}
 use Rattle.times.specs.Moments.{isClock, secondsOf, momentAt}
 use Rattle.times.specs.declared.Moment.{Moment}
 use Rattle.times.specs.declared.Moment.the-variants.{At, Never}
-use Rattle.times.proofs.MonthLaws.{both-left, both-right}
 
 -- ---- more months and more years have no fewer days
 months-rise : (l : Bool) (m n : ℕ) → m ≤ n → daysBeforeMonth l m ≤ daysBeforeMonth l n

@@ -13,10 +13,12 @@ use Rattle.text.specs.Walk.{ends, lead}
 use Rattle.text.specs.Find.{other}
 use Rattle.text.specs.Utf8.{validUpTo, utf8, Utf8}
 use Rattle.text.specs.Space.{trimStart, trimEnd, trimmed}
+use Rattle.text.proofs.BoolLaws.{both-left, both-right}
 use Rattle.letters.specs.Capitals.{raised, capitals}
 use Rattle.letters.specs.Order.{order, orderRaised}
 use Rattle.letters.specs.declared.Order.the-variants.{Less}
 use Rattle.letters.proofs.CapitalLaws.{capitals-twice}
+use Rattle.letters.proofs.SpaceLaws.{trim-capitals}
 use Rattle.tags.specs.Tags.{colon, gt, kindOf}
 use Rattle.tags.specs.declared.Kind.{Kind}
 use Rattle.tags.specs.declared.Kind.the-variants.{EndOfHeader, EndOfRecord, EndOfFile, FieldName}
@@ -25,10 +27,10 @@ use Rattle.adif.specs.Limits.{Before, Ascending}
 use Rattle.adif.proofs.Cuts.{Split, none, found, split, front-found}
 use Rattle.rowcheck.specs.Check.{Row, recordIn, nameIn, valueIn, sound, lacks, isField, writable, counted, verdict, checkFrom, checkOf}
 use Rattle.refusals.specs.declared.Verdict.the-variants.{Accepted}
-use Rattle.rowcheck.proofs.FineLaws.{both-first, both-second, first-fine, rest-fine, is-sound, is-writable, few-names, few-records, higher, next-number, from-one, counted-on, counted-new}
+use Rattle.rowcheck.proofs.FineLaws.{first-fine, rest-fine, is-sound, is-writable, few-names, few-records, higher, next-number, from-one, counted-on, counted-new}
 use Rattle.writer.specs.Rows.{rowField, endsBefore, joined, grouped, recordsOf}
 use Rattle.trip.specs.File.{Good, AllGood, Writable, AllWritable}
-use Rattle.trip.proofs.Raised.{good-raised, trim-raised, kind-raised, without-raised}
+use Rattle.trip.proofs.Raised.{good-raised, kind-raised, without-raised}
 use Rattle.trip.proofs.Grouped.{closely, goes-on}
 use Rattle.trip.proofs.Means.{named}
 
@@ -64,27 +66,27 @@ module _ (xs : List ℕ) (w : writable xs ≡ true) where
   tests = w
 
   ends-are : at-ends ≡ true
-  ends-are = both-first at-ends (both free (isField (kindOf xs))) tests
+  ends-are = both-left at-ends (both free (isField (kindOf xs))) tests
 
   pub name-trim : trimmed xs ≡ xs
   name-trim =
-      trim-is xs (eqb-true (trimStart xs) 0 (both-first (eqb (trimStart xs) 0) (eqb (trimEnd xs) (length xs)) ends-are))
-      (eqb-true (trimEnd xs) (length xs) (both-second (eqb (trimStart xs) 0) (eqb (trimEnd xs) (length xs)) ends-are))
+      trim-is xs (eqb-true (trimStart xs) 0 (both-left (eqb (trimStart xs) 0) (eqb (trimEnd xs) (length xs)) ends-are))
+      (eqb-true (trimEnd xs) (length xs) (both-right (eqb (trimStart xs) 0) (eqb (trimEnd xs) (length xs)) ends-are))
 
   others : both free (isField (kindOf xs)) ≡ true
-  others = both-second at-ends (both free (isField (kindOf xs))) tests
+  others = both-right at-ends (both free (isField (kindOf xs))) tests
 
   name-free : free ≡ true
-  name-free = both-first free (isField (kindOf xs)) others
+  name-free = both-left free (isField (kindOf xs)) others
 
   pub name-colon : Without colon xs
-  name-colon = lacks-is colon xs (both-first (lacks colon xs) (lacks gt xs) name-free)
+  name-colon = lacks-is colon xs (both-left (lacks colon xs) (lacks gt xs) name-free)
 
   pub name-gt : Without gt xs
-  name-gt = lacks-is gt xs (both-second (lacks colon xs) (lacks gt xs) name-free)
+  name-gt = lacks-is gt xs (both-right (lacks colon xs) (lacks gt xs) name-free)
 
   pub name-kind : kindOf xs ≡ FieldName
-  name-kind = field-kind (kindOf xs) (both-second free (isField (kindOf xs)) others)
+  name-kind = field-kind (kindOf xs) (both-right free (isField (kindOf xs)) others)
 
 pub utf8-is : (xs : List ℕ) → utf8 xs ≡ true → Utf8 xs
 unfolding utf8
@@ -102,13 +104,13 @@ module _ (text : List ℕ) (small : length text < 2 ^ 64) where
     row-good : Good (rowField text r)
     row-good =
         record {
-          trim = trim-raised (nameIn text r) ∙ ap capitals (name-trim (nameIn text r) can);
+          trim = trim-capitals (nameIn text r) ∙ ap capitals (name-trim (nameIn text r) can);
           capital = capitals-twice (nameIn text r);
           no-colon = without-raised colon (nameIn text r) (omega arith) (name-colon (nameIn text r) can);
           no-gt = without-raised gt (nameIn text r) (omega arith) (name-gt (nameIn text r) can);
           plain = kind-raised (nameIn text r) ∙ name-kind (nameIn text r) can;
-          name-utf8 = good-raised (nameIn text r) ∙ utf8-is (nameIn text r) (both-first (utf8 (nameIn text r)) (utf8 (valueIn text r)) sounds) ∙ sym (length-map (nameIn text r) raised);
-          value-utf8 = utf8-is (valueIn text r) (both-second (utf8 (nameIn text r)) (utf8 (valueIn text r)) sounds);
+          name-utf8 = good-raised (nameIn text r) ∙ utf8-is (nameIn text r) (both-left (utf8 (nameIn text r)) (utf8 (valueIn text r)) sounds) ∙ sym (length-map (nameIn text r) raised);
+          value-utf8 = utf8-is (valueIn text r) (both-right (utf8 (nameIn text r)) (utf8 (valueIn text r)) sounds);
           short = omega (arith, length-take (getD r 4 0) (drop (getD r 3 0) text), length-drop (getD r 3 0) text);
         }
 

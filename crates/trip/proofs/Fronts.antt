@@ -11,12 +11,14 @@ use Rattle.text.specs.Walk.{lead, ends}
 use Rattle.text.specs.Find.{other}
 use Rattle.text.specs.Space.{space1, space2, space3, space80, spaceLen, spaceBack, width, trimStart, trimEnd, trimmed, blank}
 use Rattle.text.specs.Utf8.{charLen, validUpTo, utf8, Utf8}
+use Rattle.text.proofs.BoolLaws.{both-left, both-right}
 use Rattle.letters.specs.Capitals.{raised, capitals}
 use Rattle.letters.specs.Same.{sameRaised}
 use Rattle.letters.specs.Order.{order}
 use Rattle.letters.specs.declared.Order.the-variants.{Less}
 use Rattle.letters.proofs.OrderLaws.{order-trans}
 use Rattle.letters.proofs.CapitalLaws.{capitals-twice}
+use Rattle.letters.proofs.SpaceLaws.{trim-capitals}
 use Rattle.decimal.specs.Digits.{digits, decimal}
 use Rattle.tags.specs.Tags.{colon, gt, kindOf}
 use Rattle.adif.specs.Grammar.{Field}
@@ -25,11 +27,10 @@ use Rattle.fields.specs.Written.{fieldText, fieldsText, recordText, headerText}
 use Rattle.fields.specs.Parts.{fieldAs}
 use Rattle.rowcheck.specs.Check.{lacks, writable}
 use Rattle.headers.specs.Headers.{adifVersion, programId, programVersion, createdTimestamp, rigflow, journalHeader, journalFields, exportFields, exportHeader}
-use Rattle.rowcheck.proofs.FineLaws.{both-first, both-second}
 use Rattle.headers.specs.Answer.{allUtf8}
 use Rattle.station.specs.Station.{myCounty, myCqZone, myGridsquare, myItuZone, myName, myState, operator, stationCallsign, given, stationFields, all7}
 use Rattle.trip.specs.File.{Good, AllGood, Front, header, frontText, Fit}
-use Rattle.trip.proofs.Raised.{good-raised, trim-raised, kind-raised, without-raised}
+use Rattle.trip.proofs.Raised.{good-raised, kind-raised, without-raised}
 use Rattle.trip.proofs.Accepted.{name-trim, name-colon, name-gt, name-kind, utf8-is}
 use Rattle.trip.proofs.Means.{named}
 use Rattle.trip.proofs.Trimmed.{trimmed-utf8, trimmed-short}
@@ -38,7 +39,7 @@ use Rattle.trip.proofs.Trimmed.{trimmed-utf8, trimmed-short}
 good-as : (name value : List ℕ) → writable name ≡ true → Utf8 name → Utf8 value → length value < 2 ^ 64 → Good (fieldAs name value)
 good-as name value w u v s =
     record {
-      trim = trim-raised name ∙ ap capitals (name-trim name w);
+      trim = trim-capitals name ∙ ap capitals (name-trim name w);
       capital = capitals-twice name;
       no-colon = without-raised colon name (omega arith) (name-colon name w);
       no-gt = without-raised gt name (omega arith) (name-gt name w);
@@ -151,13 +152,13 @@ given-good name v rest w u s g = by (blank v)
     by false = (good-as name (trimmed v) (w .0) (w .1) (trimmed-utf8 v u) (omega (arith, trimmed-short v)), g)
 
 -- names above a name, and names that rise
-abbrev Above : List ℕ → List Field → Type 0
+abbrev pub Above : List ℕ → List Field → Type 0
 Above name [] = Unit {0}
 Above name (f ∷ fs) = (order name (f .name) ≡ Less) × Above name fs
 
-above-on : (m n : List ℕ) (fs : List Field) → order m n ≡ Less → Above n fs → Above m fs
-above-on m n [] e a = tt
-above-on m n (f ∷ fs) e a = (order-trans m n (f .name) e (a .0), above-on m n fs e (a .1))
+pub above-trans : (m n : List ℕ) → order m n ≡ Less → (fs : List Field) → Above n fs → Above m fs
+above-trans m n h [] a = tt
+above-trans m n h (f ∷ fs) a = (order-trans m n (f .name) h (a .0), above-trans m n h fs (a .1))
 
 first-above : (f : Field) (fs : List Field) → Above (f .name) fs → Before named f fs
 first-above f [] a = tt
@@ -171,8 +172,8 @@ given-rises : (m name v : List ℕ) (rest : List Field) → order m (capitals na
 given-rises m name v rest e r = by (blank v)
   where
     by : (t : Bool) → Rising m (pick t rest (fieldAs name (trimmed v) ∷ rest))
-    by true = (r .0, above-on m (capitals name) rest e (r .1))
-    by false = ((first-above (fieldAs name (trimmed v)) rest (r .1), r .0), (e, above-on m (capitals name) rest e (r .1)))
+    by true = (r .0, above-trans m (capitals name) e rest (r .1))
+    by false = ((first-above (fieldAs name (trimmed v)) rest (r .1), r .0), (e, above-trans m (capitals name) e rest (r .1)))
 
 given-few : (name v : List ℕ) (rest : List Field) → length (given name v rest) ≤ suc (length rest)
 given-few name v rest = by (blank v)
@@ -217,18 +218,18 @@ module _ (call grid name state county cq itu : List ℕ) where
   station-good s e =
       let A : Bool = both (utf8 call) (both (utf8 grid) (utf8 name)) in
       let B : Bool = both (utf8 state) (both (utf8 county) (utf8 cq)) in
-      let a : A ≡ true = both-first A (both B (utf8 itu)) e in
-      let d : both B (utf8 itu) ≡ true = both-second A (both B (utf8 itu)) e in
-      let b : B ≡ true = both-first B (utf8 itu) d in
-      let a′ : both (utf8 grid) (utf8 name) ≡ true = both-second (utf8 call) (both (utf8 grid) (utf8 name)) a in
-      let b′ : both (utf8 county) (utf8 cq) ≡ true = both-second (utf8 state) (both (utf8 county) (utf8 cq)) b in
-      let u : Utf8 call = utf8-is call (both-first (utf8 call) (both (utf8 grid) (utf8 name)) a) in
-      given-good myCounty county _ my-county (utf8-is county (both-first (utf8 county) (utf8 cq) b′)) (s .4)
-      (given-good myCqZone cq _ my-cq-zone (utf8-is cq (both-second (utf8 county) (utf8 cq) b′)) (s .5)
-      (given-good myGridsquare grid _ my-gridsquare (utf8-is grid (both-first (utf8 grid) (utf8 name) a′)) (s .1)
-      (given-good myItuZone itu _ my-itu-zone (utf8-is itu (both-second B (utf8 itu) d)) (s .6)
-      (given-good myName name _ my-name (utf8-is name (both-second (utf8 grid) (utf8 name) a′)) (s .2)
-      (given-good myState state _ my-state (utf8-is state (both-first (utf8 state) (both (utf8 county) (utf8 cq)) b)) (s .3)
+      let a : A ≡ true = both-left A (both B (utf8 itu)) e in
+      let d : both B (utf8 itu) ≡ true = both-right A (both B (utf8 itu)) e in
+      let b : B ≡ true = both-left B (utf8 itu) d in
+      let a′ : both (utf8 grid) (utf8 name) ≡ true = both-right (utf8 call) (both (utf8 grid) (utf8 name)) a in
+      let b′ : both (utf8 county) (utf8 cq) ≡ true = both-right (utf8 state) (both (utf8 county) (utf8 cq)) b in
+      let u : Utf8 call = utf8-is call (both-left (utf8 call) (both (utf8 grid) (utf8 name)) a) in
+      given-good myCounty county _ my-county (utf8-is county (both-left (utf8 county) (utf8 cq) b′)) (s .4)
+      (given-good myCqZone cq _ my-cq-zone (utf8-is cq (both-right (utf8 county) (utf8 cq) b′)) (s .5)
+      (given-good myGridsquare grid _ my-gridsquare (utf8-is grid (both-left (utf8 grid) (utf8 name) a′)) (s .1)
+      (given-good myItuZone itu _ my-itu-zone (utf8-is itu (both-right B (utf8 itu) d)) (s .6)
+      (given-good myName name _ my-name (utf8-is name (both-right (utf8 grid) (utf8 name) a′)) (s .2)
+      (given-good myState state _ my-state (utf8-is state (both-left (utf8 state) (both (utf8 county) (utf8 cq)) b)) (s .3)
       (given-good operator call _ its-operator u (s .0) (given-good stationCallsign call [] its-callsign u (s .0) tt)))))))
 
 -- fields in front of a record are fields of that record

@@ -15,9 +15,9 @@ use Rattle.text.specs.Utf8.{cont, second3, longChar, charLen, validUpTo, Utf8, 
 use Rattle.text.specs.Space.{space1, space2, space80, space3, width, spaceLen, spaceBack, trimStart, trimEnd, trimmed}
 use Rattle.text.proofs.Walks.{steps, stops, lead-le}
 use Rattle.text.proofs.CharLaws.{first-begins}
-use Rattle.text.proofs.SpaceLaws.{front-fits, getD-reverse, end-le}
+use Rattle.text.proofs.SpaceLaws.{front-fits, getD-reverse, end-le, back-within}
 use Rattle.text.proofs.PartLaws.{part-whole}
-use Rattle.rowcheck.proofs.FineLaws.{both-first, both-second}
+use Rattle.text.proofs.BoolLaws.{both-left, both-right}
 
 -- ---- which bytes white space has
 either-is : {A : Type 0} (a b : Bool) → either a b ≡ true → (a ≡ true → A) → (b ≡ true → A) → A
@@ -29,7 +29,7 @@ abbrev Inner : ℕ → Type 0
 Inner b = (0x80 ≤ b) × (b ≤ 0xBF)
 
 in-range : (x lo hi : ℕ) → within x lo hi ≡ true → (lo ≤ x) × (x ≤ hi)
-in-range x lo hi e = (leb-true lo x (both-first (leb lo x) (leb x hi) e), leb-true x hi (both-second (leb lo x) (leb x hi) e))
+in-range x lo hi e = (leb-true lo x (both-left (leb lo x) (leb x hi) e), leb-true x hi (both-right (leb lo x) (leb x hi) e))
 
 is1 : (a : ℕ) → space1 a ≡ true → a ≤ 0x20
 unfolding space1
@@ -38,8 +38,8 @@ is1 a e = either-is (within a 0x09 0x0D) (eqb a 0x20) e (λ p. omega (arith, in-
 is2 : (a b : ℕ) → space2 a b ≡ true → (a ≡ 0xC2) × Inner b
 unfolding space2
 is2 a b e = (
-  eqb-true a 0xC2 (both-first (eqb a 0xC2) (either (eqb b 0x85) (eqb b 0xA0)) e),
-  either-is (eqb b 0x85) (eqb b 0xA0) (both-second (eqb a 0xC2) (either (eqb b 0x85) (eqb b 0xA0)) e) (λ p. (omega (arith, eqb-true b 0x85 p), omega (arith, eqb-true b 0x85 p))) (λ p. (omega (arith, eqb-true b 0xA0 p), omega (arith, eqb-true b 0xA0 p))),
+  eqb-true a 0xC2 (both-left (eqb a 0xC2) (either (eqb b 0x85) (eqb b 0xA0)) e),
+  either-is (eqb b 0x85) (eqb b 0xA0) (both-right (eqb a 0xC2) (either (eqb b 0x85) (eqb b 0xA0)) e) (λ p. (omega (arith, eqb-true b 0x85 p), omega (arith, eqb-true b 0x85 p))) (λ p. (omega (arith, eqb-true b 0xA0 p), omega (arith, eqb-true b 0xA0 p))),
 )
 
 is80 : (c : ℕ) → space80 c ≡ true → Inner c
@@ -54,10 +54,10 @@ Three a b c = (0xE1 ≤ a) × (a ≤ 0xE3) × Inner b × Inner c
 
 three : (a b c x y : ℕ) (t : Bool) → 0xE1 ≤ x → x ≤ 0xE3 → Inner y → (t ≡ true → Inner c) → both (both (eqb a x) (eqb b y)) t ≡ true → Three a b c
 three a b c x y t l h i f e =
-    let p : both (eqb a x) (eqb b y) ≡ true = both-first (both (eqb a x) (eqb b y)) t e in
-    let q : a ≡ x = eqb-true a x (both-first (eqb a x) (eqb b y) p) in
-    let r : b ≡ y = eqb-true b y (both-second (eqb a x) (eqb b y) p) in
-    (omega arith, omega arith, (omega (arith, i .0), omega (arith, i .1)), f (both-second (both (eqb a x) (eqb b y)) t e))
+    let p : both (eqb a x) (eqb b y) ≡ true = both-left (both (eqb a x) (eqb b y)) t e in
+    let q : a ≡ x = eqb-true a x (both-left (eqb a x) (eqb b y) p) in
+    let r : b ≡ y = eqb-true b y (both-right (eqb a x) (eqb b y) p) in
+    (omega arith, omega arith, (omega (arith, i .0), omega (arith, i .1)), f (both-right (both (eqb a x) (eqb b y)) t e))
 
 is3 : (a b c : ℕ) → space3 a b c ≡ true → Three a b c
 unfolding space3
@@ -186,13 +186,6 @@ back-begins (suc f) xs h j e = by (spaceBack xs) refl (λ t x i y. back-begins f
             further (suc m) n z =
                 let g : j ≡ suc k + m = omega arith in
                 rw (g, ← getD-drop (suc k) (x ∷ xs) m 0) (go (drop (suc k) (x ∷ xs)) (omega (arith, length-drop (suc k) (x ∷ xs))) m n)
-
-back-within : (xs : List ℕ) → 0 < length xs → spaceBack xs ≤ length xs
-back-within xs h = by (spaceBack xs) refl
-  where
-    by : (n : ℕ) → spaceBack xs ≡ n → spaceBack xs ≤ length xs
-    by zero e = omega arith
-    by (suc k) e = omega (arith, back-in xs k h e)
 
 ends-between : (t : List ℕ) → Between t (trimEnd t)
 unfolding trimEnd

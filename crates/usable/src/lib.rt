@@ -1,22 +1,9 @@
 // Whether a record can be made into a contact, and why not. After `check` of `import.rs`.
 ghost use mathlib.Core.Path.{_≡_};
 ghost use Rattle.text.specs.Space.{blank, trimmed};
-ghost use Rattle.decimal.specs.Decimal.{allDigits};
 ghost use Rattle.contacts.specs.Contacts.{isDate, isTime};
 ghost use Rattle.usable.specs.Reasons.{reasonBy};
-
-fn all_digits(s: &[u8]) -> bool
-    ensures { λ r. ⌜ r ≡ allDigits (now (s .entry)) ⌝ }
-{
-    let mut i = 0;
-    while i < s.len() {
-        if !text::inside(s[i], 0x30, 0x39) {
-            return false;
-        }
-        i += 1;
-    }
-    true
-}
+use decimal::all_digits;
 
 fn is_date(d: &[u8]) -> bool
     ensures { λ r. ⌜ r ≡ isDate (now (d .entry)) ⌝ }

@@ -6,14 +6,14 @@ use Prim.Native.Nat.{ℕ, zero, suc, _+_, _-_, _*_, _≤_, _<_}
 use native.Mathlib.Nat.{sub-zero}
 use native.Mathlib.Omega.{arith}
 use lib.ListN.{length, getD, length-append}
-use borrow.Author.Tests.{not-true, not-false}
+use borrow.Author.Tests.{not-true}
 use Rattle.fields.specs.Written.{fieldText}
 use Rattle.refusals.specs.declared.Verdict.{Verdict}
 use Rattle.refusals.specs.declared.Verdict.the-variants.{Accepted, Refused}
 use Rattle.refusals.specs.declared.Written.{Written}
 use Rattle.refusals.specs.declared.Written.the-variants.{Bytes, Unwritten}
 use Rattle.rowcheck.specs.Check.{Row, recordIn, counted, verdict, isFine, andThen, checkFrom, checkOf}
-use Rattle.rowcheck.proofs.FineLaws.{few-names, few-records, Tally, tally-on, tally-few}
+use Rattle.rowcheck.proofs.FineLaws.{few-names, few-records, Tally, tally-on, tally-few, fine}
 use Rattle.writer.specs.Rows.{rowAt, rowsFrom, rowsOf, rowField, endsBefore, endText, rowsText}
 use Rattle.writer.specs.Answer.{sizedBy, checkedOf}
 use Rattle.writer.proofs.RowLaws.{rows-cons, left, left-all, left-none, left-cons}
@@ -26,13 +26,6 @@ Checking text t count n c p size i =
 pub check-start : (text t : List ℕ) (count : ℕ) → Checking text t count 0 0 (0 ∷ 0 ∷ 0 ∷ 0 ∷ 0 ∷ []) 0 0
 unfolding Checking checkOf rowsOf
 check-start text t count = (rw (sub-zero count) refl, omega (arith, ap length (left-all text t count)))
-
-fine : (v : Verdict) (f : Bool) → f ≡ isFine v → not f ≡ false → v ≡ Accepted
-fine v f e h = by v (sym e ∙ not-false f h)
-  where
-    by : (w : Verdict) → isFine w ≡ true → w ≡ Accepted
-    by Accepted e = refl
-    by (Refused why) e = absurd (let z : _≡_ {A = ℕ} 0 1 = cc in omega arith)
 
 stops : (v w : Verdict) (n : ℕ) (r : Written) → isFine v ≡ false → r ≡ sizedBy v 0 → r ≡ sizedBy (andThen v w) n
 stops Accepted w n r e p = absurd (let z : _≡_ {A = ℕ} 0 1 = cc in omega arith)

@@ -37,6 +37,14 @@ module _ (t : List ℕ) (count i : ℕ) (h : i < count) where
       let z : count - (i + 1) ≡ suc (count - (i + 1) - 1) = omega arith in
       rw (z, ← ea, ← eb) refl
 
+-- from the last row to the first
+pub row-before : (t : List ℕ) (first count i : ℕ) → 0 < i → i ≤ count
+    → rowsFrom t (first + (i - 1)) (count - (i - 1)) ≡ rowAt t (first + (i - 1)) ∷ rowsFrom t (first + i) (count - i)
+row-before t first count i h l =
+    let e : count - (i - 1) ≡ suc (count - i) = omega arith in
+    let f : suc (first + (i - 1)) ≡ first + i = omega arith in
+    rw (e, f) refl
+
 -- ---- a row
 part-short : (text : List ℕ) (a n : ℕ) → length (part text a n) ≤ length text
 part-short text a n = omega (arith, length-take n (drop a text), length-drop a text)

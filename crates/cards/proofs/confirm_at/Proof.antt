@@ -6,7 +6,7 @@ use Rattle.cards.proofs.confirm_at.Reads as reads
 use Rattle.cards.proofs.answers_at.Reads as answers-at-reads
 use Rattle.cards.proofs.with_answers.Reads as with-answers-reads
 use Rattle.counted.proofs.mark.Reads as mark-reads
-use Rattle.counted.proofs.number_in.Reads as number-in-reads
+use Rattle.entries.proofs.number_in.Reads as number-in-reads
 use Rattle.tallies.proofs.services_in.Reads as services-in-reads
 use Rattle.tallies.proofs.target_of.Reads as target-of-reads
 use Rattle.tallies.proofs.with_none.Reads as with-none-reads

@@ -1,5 +1,6 @@
 use native.Mathlib.Omega.{arith}
-use Rattle.cellfields.proofs.TextLaws.{field-long, few}
+use Rattle.output.proofs.DigitLaws.{few-decimals}
+use Rattle.cellfields.proofs.TextLaws.{field-long}
 use Rattle.cellfields.proofs.NameLaws.{short-name}
 use borrow.Author.Needs.{needs}
 use Rattle.cellfields.proofs.field_size.Statement.{statement}
@@ -19,13 +20,13 @@ decimal-size-requires : tie.Need-decimal-size-requires
 decimal-size-requires c κs = search needs
 
 add-result-2 : tie.Need-add-result-2
-add-result-2 c = omega (arith, short-name _ _ (c .before .before .column-name .ensures), few _ _ (c .decimal-size .ensures))
+add-result-2 c = omega (arith, short-name _ _ (c .before .before .column-name .ensures), few-decimals _ _ (c .decimal-size .ensures))
 
 add-result-3 : tie.Need-add-result-3
-add-result-3 c = omega (arith, short-name _ _ (c .before .before .column-name .ensures), few _ _ (c .decimal-size .ensures))
+add-result-3 c = omega (arith, short-name _ _ (c .before .before .column-name .ensures), few-decimals _ _ (c .decimal-size .ensures))
 
 returns : tie.Need-returns
-returns c = (search field-long, omega (arith, short-name _ _ (c .before .before .column-name .ensures), few _ _ (c .decimal-size .ensures)))
+returns c = (search field-long, omega (arith, short-name _ _ (c .before .before .column-name .ensures), few-decimals _ _ (c .decimal-size .ensures)))
 
 pub field-size-spec : {M : Type 1} → statement M
 field-size-spec =

@@ -10,7 +10,7 @@ use Rattle.confirmations.proofs.heard_in.Tie as tie
 use Rattle.confirmations.proofs.heard_nothing.Reads as heard-nothing-reads
 use Rattle.confirmations.proofs.heard_with.Reads as heard-with-reads
 use Rattle.confirmations.proofs.is_telling.Reads as is-telling-reads
-use Rattle.confirmations.proofs.value_at.Reads as value-at-reads
+use Rattle.tables.proofs.places.value_place.Reads as value-place-reads
 use Rattle.rowcheck.proofs.name_of.Reads as name-of-reads
 use Rattle.text.proofs.byte.Reads as byte-reads
 use Rattle.writer.proofs.row_at.Reads as row-at-reads
@@ -54,8 +54,8 @@ loop-less c = search needs
 loop-again : tie.Need-loop-again Inv-loop μ-loop
 loop-again c = (omega arith, search row-silent)
 
-value-at-requires : tie.Need-value-at-requires Inv-loop μ-loop
-value-at-requires c κs = search needs
+value-place-requires : tie.Need-value-place-requires Inv-loop μ-loop
+value-place-requires c κs = search needs
 
 heard-with-requires : tie.Need-heard-with-requires Inv-loop μ-loop
 heard-with-requires c κs = search needs
@@ -73,7 +73,7 @@ loop-again-2 c =
           (named .name-of .ensures)
           _
           _
-          (c .before .value-at .ensures)
+          (c .before .value-place .ensures)
           (c .heard-with .ensures),
     )
 
@@ -97,7 +97,7 @@ heard-in-spec =
     is-telling-requires
     loop-less
     loop-again
-    value-at-requires
+    value-place-requires
     heard-with-requires
     loop-less-2
     loop-again-2

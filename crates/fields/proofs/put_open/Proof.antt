@@ -1,5 +1,4 @@
-use Rattle.output.proofs.PutLaws.{room-first}
-use Rattle.fields.proofs.FieldLaws.{room-second, room-third, put-three}
+use Rattle.output.proofs.PutLaws.{room-first, room-second, room-third, put-three}
 use borrow.Author.Needs.{needs}
 use Rattle.fields.proofs.put_open.Statement.{statement}
 use Rattle.fields.proofs.put_open.Tie as tie

@@ -1,7 +1,6 @@
 use native.Mathlib.Omega.{arith}
 use mathlib.Core.Path.{refl}
-use Rattle.output.proofs.PutLaws.{room-first}
-use Rattle.fields.proofs.FieldLaws.{room-second, room-third, put-three}
+use Rattle.output.proofs.PutLaws.{room-first, room-second, room-third, put-three}
 use borrow.Author.Needs.{needs}
 use Rattle.headers.proofs.put_versions.Statement.{statement}
 use Rattle.headers.proofs.put_versions.Tie as tie

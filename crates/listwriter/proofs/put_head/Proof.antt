@@ -1,4 +1,4 @@
-use Rattle.listwriter.proofs.PartLaws.{three-first, three-second, three-third, three-put}
+use Rattle.output.proofs.PutLaws.{room-first, room-second, room-third, put-three}
 use borrow.Author.Needs.{needs}
 use Rattle.listwriter.proofs.put_head.Statement.{statement}
 use Rattle.listwriter.proofs.put_head.Tie as tie
@@ -6,19 +6,19 @@ use Rattle.listwriter.proofs.put_number.Reads as put-number-reads
 use Rattle.output.proofs.put_byte.Reads as put-byte-reads
 
 put-number-requires : tie.Need-put-number-requires
-put-number-requires c κs = search three-first
+put-number-requires c κs = search room-first
 
 put-number-requires-2 : tie.Need-put-number-requires-2
-put-number-requires-2 c κs = search three-second
+put-number-requires-2 c κs = search room-second
 
 put-byte-requires : tie.Need-put-byte-requires
-put-byte-requires c κs = search three-third
+put-byte-requires c κs = search room-third
 
 same-length : tie.Need-same-length
 same-length c = search needs
 
 returns : tie.Need-returns
-returns c = search three-put
+returns c = search put-three
 
 pub put-head-spec : {M : Type 1} → statement M
 put-head-spec =

@@ -9,7 +9,7 @@ use Rattle.mapping.specs.Mapping.{columnsOf}
 use Rattle.mapping.proofs.columns_of.Statement.{statement}
 use Rattle.mapping.proofs.columns_of.Tie as tie
 use Rattle.columns.proofs.column_of.Reads as column-of-reads
-use Rattle.mapping.proofs.value_place.Reads as value-place-reads
+use Rattle.tables.proofs.places.value_place.Reads as value-place-reads
 use Rattle.rowcheck.proofs.name_of.Reads as name-of-reads
 use Rattle.tables.proofs.places.absent.Reads as absent-reads
 use Rattle.writer.proofs.row_at.Reads as row-at-reads

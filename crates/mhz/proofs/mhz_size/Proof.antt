@@ -1,6 +1,7 @@
 use Prim.Native.Nat.{_/_}
 use native.Mathlib.Omega.{arith}
-use Rattle.mhz.proofs.WriteLaws.{few-digits, size-is}
+use Rattle.output.proofs.DigitLaws.{decimal-few}
+use Rattle.mhz.proofs.WriteLaws.{size-is}
 use borrow.Author.Needs.{needs}
 use Rattle.mhz.proofs.mhz_size.Statement.{statement}
 use Rattle.mhz.proofs.mhz_size.Tie as tie
@@ -9,7 +10,7 @@ decimal-size-requires : tie.Need-decimal-size-requires
 decimal-size-requires c κs = search needs
 
 add-result : tie.Need-add-result
-add-result c = omega (arith, few-digits (c .before .args .hz / 1000000), c .decimal-size .ensures)
+add-result c = omega (arith, decimal-few (c .before .args .hz / 1000000), c .decimal-size .ensures)
 
 returns : tie.Need-returns
 returns c = search size-is

@@ -6,7 +6,7 @@ use Rattle.dedupe.proofs.in_file.Reads as in-file-reads
 use Rattle.ox_dedupe.proofs.check_qsos.Reads as check-qsos-reads
 use Rattle.ox_dedupe.proofs.key_of.Reads as key-of-reads
 use Rattle.ox_dedupe.proofs.told.Reads as told-reads
-use Rattle.ox_dedupe.proofs.untold.Reads as untold-reads
+use Rattle.ox_text.proofs.untold.Reads as untold-reads
 
 check-qsos-requires : tie.Need-check-qsos-requires
 check-qsos-requires c κs = search needs

@@ -5,7 +5,7 @@ use Rattle.ox_dedupe.proofs.ox_within_window.Tie as tie
 use Rattle.ox_dedupe.proofs.check_qsos.Reads as check-qsos-reads
 use Rattle.ox_dedupe.proofs.moment_in.Reads as moment-in-reads
 use Rattle.ox_dedupe.proofs.told.Reads as told-reads
-use Rattle.ox_dedupe.proofs.untold.Reads as untold-reads
+use Rattle.ox_text.proofs.untold.Reads as untold-reads
 use Rattle.times.proofs.window.within_window.Reads as within-window-reads
 
 check-qsos-requires : tie.Need-check-qsos-requires

@@ -9,11 +9,8 @@ check-text-requires c κs = search needs
 enum-known-verdict : tie.Need-enum-known-verdict
 enum-known-verdict c = search needs
 
-number-requires : tie.Need-number-requires
-number-requires c κs = search needs
-
-place-requires : tie.Need-place-requires
-place-requires c κs = search needs
+untold-requires : tie.Need-untold-requires
+untold-requires c κs = search needs
 
 enum-told : tie.Need-enum-told
 enum-told c = search needs
@@ -33,8 +30,7 @@ ox-band-known-spec =
     (tie.spec
     check-text-requires
     enum-known-verdict
-    number-requires
-    place-requires
+    untold-requires
     enum-told
     is-known-band-requires
     returns

@@ -1,4 +1,5 @@
-use Rattle.summary.proofs.SizeLaws.{few-decimals, one-size, many-size}
+use Rattle.output.proofs.DigitLaws.{few-decimals}
+use Rattle.summary.proofs.SizeLaws.{one-size, many-size}
 use native.Mathlib.Omega.{arith}
 use borrow.Author.Needs.{needs}
 use Rattle.summary.proofs.counted_size.Statement.{statement}

@@ -2,7 +2,7 @@ use Rattle.contacts.specs.Contacts.{isDate}
 use borrow.Author.Needs.{needs}
 use Rattle.usable.proofs.is_date.Statement.{statement}
 use Rattle.usable.proofs.is_date.Tie as tie
-use Rattle.usable.proofs.all_digits.Reads as all-digits-reads
+use Rattle.decimal.proofs.all_digits.Reads as all-digits-reads
 use Rattle.text.proofs.all.Reads as all-reads
 
 all-digits-requires : tie.Need-all-digits-requires

@@ -2,7 +2,7 @@ use Rattle.contacts.specs.Contacts.{isTime}
 use borrow.Author.Needs.{needs}
 use Rattle.usable.proofs.is_time.Statement.{statement}
 use Rattle.usable.proofs.is_time.Tie as tie
-use Rattle.usable.proofs.all_digits.Reads as all-digits-reads
+use Rattle.decimal.proofs.all_digits.Reads as all-digits-reads
 use Rattle.text.proofs.all.Reads as all-reads
 use Rattle.text.proofs.any.Reads as any-reads
 

@@ -2,10 +2,10 @@ use mathlib.Core.Path.{_≡_, refl}
 use Prim.Native.Nat.{_≤_, _-_}
 use lib.ListN.{length, drop}
 use borrow.Author.Needs.{needs}
 use Rattle.decimal.specs.Decimal.{allDigits}
-use Rattle.contacts.proofs.EntryLaws.{digits-stop, digits-on, digits-end}
-use Rattle.usable.proofs.all_digits.Statement.{statement}
-use Rattle.usable.proofs.all_digits.Tie as tie
+use Rattle.decimal.proofs.DecimalLaws.{digits-stop, digits-on, digits-end}
+use Rattle.decimal.proofs.all_digits.Statement.{statement}
+use Rattle.decimal.proofs.all_digits.Tie as tie
 use Rattle.text.proofs.inside.Reads as inside-reads
 
 abbrev Inv-loop : tie.InvT-loop
