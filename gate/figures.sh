@@ -22,7 +22,7 @@ echo "| functions, each proved | $(code | grep -cE '^ *(pub )?(extern "C" )?fn '
 echo "| code, contracts included | $(code | grep -c .) lines, of which $(code | grep -cE '^ *(requires|ensures) ') are contracts |"
 echo "| definitions | $(definitions | grep -cE '^ *((unfoldable|abbrev) |(pub )?(record|data) )') in $(definitions | grep -c .) lines, worked examples included |"
 echo "| proofs | $(lines -path '*/proofs/*.antt') lines |"
-echo "| must-fail edits | $(find crates -name '*.edit' | wc -l) |"
+echo "| must-fail edits | $(find crates -name '*.edit' -exec cat {} + | grep -c '^edit: '), tried in $(find crates -name '*.edit' | wc -l) groups |"
 echo "| recorded answers | $(lines -path '*/replay/data/*') lines, and $(find samples/plans -name '*.adi' | wc -l) files beside their plans |"
 awk -F '|' '/^\| 20/ { gsub(/[ ,]/, ""); n += $6; bad += $7 }
     END { while (n >= 1000) { rest = sprintf(",%03d%s", n % 1000, rest); n = int(n / 1000) }

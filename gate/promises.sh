@@ -7,7 +7,7 @@
 # The tests' own crates have no rows. Helpers with fewer than two edits are told, and do not fail.
 set -u
 cd "${1:-$(dirname "$0")/..}" || exit 1
-ls crates/*/must-fail/*.edit | LC_ALL=C awk '
+grep '^edit: ' crates/*/must-fail/*.edit | LC_ALL=C awk '
 function fail(what) { print what; failed++ }
 # the file below crates/ as lines between newlines, or nothing
 function read_file(file,    line, all) {
@@ -25,7 +25,7 @@ function crate_of(call) { return (call in exported) ? exported[call] : substr(ca
 function last_of(call,    n, part) { n = split(call, part, "::"); return part[n] }
 
 # ---- the edits, as they come by standard input
-/^crates\/[a-z0-9_]+\/must-fail\/[^ ]+\.edit$/ { split($0, part, "/"); sub(/\.edit$/, "", part[4]); edit[part[2] "/" part[4]] = 1; next }
+/^crates\/[a-z0-9_]+\/must-fail\/[^ ]+\.edit:edit: / { split($0, part, "/"); edit[part[2] "/" $2] = 1; next }
 
 # ---- the sources: every function, and what the public ones promise
 FILENAME ~ /\.rt$/ {

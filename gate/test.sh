@@ -45,6 +45,10 @@ part proofs rt ci
 # shellcheck disable=SC2046
 count $(told '\([0-9]*\) passed, \([0-9]*\) failed')
 
+part edits gate/edits.sh
+# shellcheck disable=SC2046
+count $(told 'edits: \([0-9]*\) passed, \([0-9]*\) failed')
+
 part samples gate/samples.sh
 # shellcheck disable=SC2046
 count $(told 'samples: \([0-9]*\) passed, \([0-9]*\) failed')

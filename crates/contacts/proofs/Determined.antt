@@ -5,6 +5,10 @@ use denote.Triple.Clauses.{AtExit}
 use denote.Ref.{now}
 use borrow.Fn.Kinds.{Dens, resT, endedOf}
 use Rattle.text.proofs.Once.{Once}
+use Rattle.contacts.proofs.is_date.Reads as is-date
+use Rattle.contacts.proofs.is_date.Kinds as is-date-kinds
+use Rattle.contacts.proofs.is_time.Reads as is-time
+use Rattle.contacts.proofs.is_time.Kinds as is-time-kinds
 use Rattle.contacts.proofs.is_sound_head.Reads as is-sound-head
 use Rattle.contacts.proofs.is_sound_head.Kinds as is-sound-head-kinds
 use Rattle.contacts.proofs.is_sound_texts.Reads as is-sound-texts
@@ -21,6 +25,12 @@ use Rattle.contacts.proofs.check.Reads as check
 use Rattle.contacts.proofs.check.Kinds as check-kinds
 use Rattle.contacts.proofs.is_fresh.Reads as is-fresh
 use Rattle.contacts.proofs.is_fresh.Kinds as is-fresh-kinds
+
+is-date-once : Once 1 is-date-kinds.ps is-date-kinds.r is-date.Post
+is-date-once κs a x y d e p q = p ∙ sym q
+
+is-time-once : Once 1 is-time-kinds.ps is-time-kinds.r is-time.Post
+is-time-once κs a x y d e p q = p ∙ sym q
 
 is-sound-head-once : Once 0 is-sound-head-kinds.ps is-sound-head-kinds.r is-sound-head.Post
 is-sound-head-once κs a x y d e p q = p ∙ sym q

@@ -37,7 +37,7 @@ fn is_plain(t: &[u8]) -> bool
     text::all(t.len() <= 255, text::utf8::is_utf8(t))
 }
 
-fn is_date(d: &[u8]) -> bool
+pub fn is_date(d: &[u8]) -> bool
     ensures { λ r. ⌜ r ≡ isDate (now (d .entry)) ⌝ }
 {
     if d.len() != 8 {
@@ -46,7 +46,7 @@ fn is_date(d: &[u8]) -> bool
     all_digits(d)
 }
 
-fn is_time(t: &[u8]) -> bool
+pub fn is_time(t: &[u8]) -> bool
     ensures { λ r. ⌜ r ≡ isTime (now (t .entry)) ⌝ }
 {
     if t.len() == 4 {

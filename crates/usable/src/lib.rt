@@ -3,19 +3,6 @@ ghost use mathlib.Core.Path.{_≡_};
 ghost use Rattle.text.specs.Space.{blank, trimmed};
 ghost use Rattle.contacts.specs.Contacts.{isDate, isTime};
 ghost use Rattle.usable.specs.Reasons.{reasonBy};
-use decimal::all_digits;
-
-fn is_date(d: &[u8]) -> bool
-    ensures { λ r. ⌜ r ≡ isDate (now (d .entry)) ⌝ }
-{
-    text::all(d.len() == 8, all_digits(d))
-}
-
-fn is_time(t: &[u8]) -> bool
-    ensures { λ r. ⌜ r ≡ isTime (now (t .entry)) ⌝ }
-{
-    text::all(text::any(t.len() == 4, t.len() == 6), all_digits(t))
-}
 
 // The reason of a record with this call, date and time, or 0: `blank_mode` where its mode is blank, `inexact` where the mapping refused a
 // frequency.
@@ -25,10 +12,10 @@ pub fn check(call: &[u8], date: &[u8], time: &[u8], blank_mode: bool, inexact: b
     if text::space::is_blank(call) {
         return 1;
     }
-    if !is_date(text::space::trim(date)) {
+    if !contacts::is_date(text::space::trim(date)) {
         return 2;
     }
-    if !is_time(text::space::trim(time)) {
+    if !contacts::is_time(text::space::trim(time)) {
         return 3;
     }
     if blank_mode {

@@ -4,8 +4,8 @@ use Rattle.usable.proofs.check.Statement.{statement}
 use Rattle.usable.proofs.check.Tie as tie
 use Rattle.text.proofs.space.is_blank.Reads as is-blank-reads
 use Rattle.text.proofs.space.trim.Reads as trim-reads
-use Rattle.usable.proofs.is_date.Reads as is-date-reads
-use Rattle.usable.proofs.is_time.Reads as is-time-reads
+use Rattle.contacts.proofs.is_date.Reads as is-date-reads
+use Rattle.contacts.proofs.is_time.Reads as is-time-reads
 
 is-blank-requires : tie.Need-is-blank-requires
 is-blank-requires c κs = search needs
