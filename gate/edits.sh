@@ -15,12 +15,12 @@ function read_log(log_file,    line, at, file, found) {
     delete open; delete lost; delete unfit
     while ((getline line < log_file) > 0) {
         found = 1
-        if (line ~ /^fn [^ ]*: not proved$/) { split(line, word, /^fn |: /); open[word[2]] = 1 }
+        if (line ~ /^fn [^ ]*: no proof: /) { split(line, word, /^fn |: /); open[word[2]] = 1 }
         if (!(at = index(line, ": error: "))) continue
         file = substr(line, 1, at - 1)
         sub(/:[0-9]+:[0-9]+$/, "", file); sub(/^.*\/must-fail\/[^\/]*\/[^\/]*\//, "", file)
         if (line ~ /was not admitted/) continue
-        if (line ~ /can be named from here|tie\.Need|not yet determined/) unfit[file] = 1
+        if (line ~ /can be named from here|tie\.Need|not yet determined|: error: `[a-z0-9-]*-spec`: /) unfit[file] = 1
         else lost[file] = 1
     }
     close(log_file)
@@ -36,11 +36,9 @@ function judge(    path) {
     if (!tried) { fail(name ": " label ": was not tried"); return }
     path = place
     if (place !~ /\.antt$/) {
-        if (!((crate "::" place) in open)) { fail(name ": " label ": " place " is proved, or leans on what is not"); return }
+        # without a file of its own the proof was looked for, and none was found
+        if ((crate "::" place) in open) { passed++; return }
         gsub(/::/, "/", path); path = "proofs/" path "/Proof.antt"
-        # without a proof of its own it was looked for, and none was found
-        if ((getline line < ("crates/" crate "/" path)) < 0) { passed++; return }
-        close("crates/" crate "/" path)
     }
     if (path in unfit) fail(name ": " label ": " path " does not fit")
     else if (!(path in lost)) fail(name ": " label ": no fact is missing in " path)
