@@ -301,11 +301,3 @@ unfolding near isWithin
 near-within Never b w = refl
 near-within (At x) Never w = refl
 near-within (At x) (At y) w = reached (apart x y) w
-
-pub apart-below : (a b : ℕ) → a < b → b - a ≡ apart a b
-unfolding apart
-apart-below a b h = omega arith
-
-pub apart-above : (a b : ℕ) → b ≤ a → a - b ≡ apart a b
-unfolding apart
-apart-above a b h = omega arith

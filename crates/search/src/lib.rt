@@ -4,7 +4,6 @@ ghost use mathlib.Core.Path.{_≡_};
 ghost use Prim.Native.Nat.{_≤_};
 ghost use lib.ListN.{length};
 ghost use Rattle.text.specs.Pick.{pick};
-ghost use Rattle.times.specs.Window.{apart};
 ghost use Rattle.index.specs.Rows.{joined, momentFrom};
 ghost use Rattle.search.specs.Search.{near, hit, hitOf, firstFor, Indexed};
 ghost use Rattle.search.specs.Steps.{rowMoment, rowTested, entryIn};
@@ -29,12 +28,6 @@ pub fn moment_from(there: u32, low: u32, high: u32) -> Moment
     Moment::At(low as u64 + high as u64 * HALF)
 }
 
-fn distance(a: u64, b: u64) -> u64
-    ensures { λ r. ⌜ r ≡ apart a b ⌝ }
-{
-    if a < b { b - a } else { a - b }
-}
-
 // Both are moments, and nearer than the limit.
 pub fn is_near(a: Moment, b: Moment, limit: u64) -> bool
     ensures { λ r. ⌜ r ≡ near a b limit ⌝ }
@@ -43,7 +36,7 @@ pub fn is_near(a: Moment, b: Moment, limit: u64) -> bool
         Moment::Never => false,
         Moment::At(x) => match b {
             Moment::Never => false,
-            Moment::At(y) => distance(x, y) < limit,
+            Moment::At(y) => times::window::distance(x, y) < limit,
         },
     }
 }

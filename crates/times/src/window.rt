@@ -13,7 +13,8 @@ pub fn limit_of(window: i64) -> u64
     window as u64 + 1
 }
 
-fn distance(a: u64, b: u64) -> u64
+// How far apart two numbers are.
+pub fn distance(a: u64, b: u64) -> u64
     ensures { λ r. ⌜ r ≡ apart a b ⌝ }
 {
     if a < b { b - a } else { a - b }

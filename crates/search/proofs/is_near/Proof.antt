@@ -2,7 +2,7 @@ use Rattle.search.proofs.FindLaws.{near-never, never-near, both-near}
 use borrow.Author.Needs.{needs}
 use Rattle.search.proofs.is_near.Statement.{statement}
 use Rattle.search.proofs.is_near.Tie as tie
-use Rattle.search.proofs.distance.Reads as distance-reads
+use Rattle.times.proofs.window.distance.Reads as distance-reads
 
 enum-told : tie.Need-enum-told
 enum-told c = search needs
