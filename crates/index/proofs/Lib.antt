@@ -1,2 +1,4 @@
 pub mod RowLaws
+pub mod ContactLaws
+pub mod Lent
 pub mod Determined

@@ -2,24 +2,13 @@
 use mathlib.Core.Path.{refl, sym, _∙_}
 use denote.Ref.{now}
 use Rattle.text.proofs.Once.{Once, OnceWith}
-use Rattle.indexing.proofs.clear.Reads as clear
-use Rattle.indexing.proofs.clear.Kinds as clear-kinds
 use Rattle.indexing.proofs.listed_in.Reads as listed-in
 use Rattle.indexing.proofs.listed_in.Kinds as listed-in-kinds
 use Rattle.indexing.proofs.count_in.Reads as count-in
 use Rattle.indexing.proofs.count_in.Kinds as count-in-kinds
-use Rattle.indexing.proofs.build.Reads as build
-use Rattle.indexing.proofs.build.Kinds as build-kinds
-
-clear-once : OnceWith 1 clear-kinds.ps clear-kinds.r (λ κs d. now (d .0)) clear.Post
-clear-once κs a x y d e p q = (refl, p ∙ sym q)
 
 listed-in-once : Once 1 listed-in-kinds.ps listed-in-kinds.r listed-in.Post
 listed-in-once κs a x y d e p q = p .0 ∙ sym (q .0)
 
 count-in-once : Once 0 count-in-kinds.ps count-in-kinds.r count-in.Post
 count-in-once κs a x y d e p q = p ∙ sym q
-
--- the answer, and the index
-build-once : OnceWith 2 build-kinds.ps build-kinds.r (λ κs d. now (d .1 .0)) build.Post
-build-once κs a x y d e p q = (p .0 ∙ sym (q .0), p .1 ∙ sym (q .1))
