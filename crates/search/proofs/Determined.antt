@@ -5,14 +5,9 @@ use Rattle.search.proofs.moment_from.Reads as moment-from
 use Rattle.search.proofs.moment_from.Kinds as moment-from-kinds
 use Rattle.search.proofs.is_near.Reads as is-near
 use Rattle.search.proofs.is_near.Kinds as is-near-kinds
-use Rattle.search.proofs.find.Reads as find
-use Rattle.search.proofs.find.Kinds as find-kinds
 
 moment-from-once : Once 0 moment-from-kinds.ps moment-from-kinds.r moment-from.Post
 moment-from-once κs a x y d e p q = p ∙ sym q
 
 is-near-once : Once 0 is-near-kinds.ps is-near-kinds.r is-near.Post
 is-near-once κs a x y d e p q = p ∙ sym q
-
-find-once : Once 3 find-kinds.ps find-kinds.r find.Post
-find-once κs a x y d e p q = p ∙ sym q
