@@ -159,6 +159,9 @@ module _ {M : Type 1} {𝓤 : URA M} {H : Heap 𝓤} {A : Atoms 𝓤} {K : Type 
   pub says-both : K → {φ ψ : Type 0} {P : SProp 𝓤} → φ → ψ → Step K W Γ (prop P) Γ (prop (sep 𝓤 P (sep 𝓤 (fact 𝓤 φ) (fact 𝓤 ψ))))
   says-both t {φ} {ψ} {P} x y = step (λ s. suffices t (sep 𝓤 (sep 𝓤 P (fact 𝓤 φ)) (fact 𝓤 ψ)) (assoc∗ 𝓤 P (fact 𝓤 φ) (fact 𝓤 ψ)) $ says t y $ says t x $ s)
 
+  pub says-three : K → {φ ψ χ : Type 0} {P : SProp 𝓤} → φ → ψ → χ → Step K W Γ (prop P) Γ (prop (sep 𝓤 P (sep 𝓤 (fact 𝓤 φ) (sep 𝓤 (fact 𝓤 ψ) (fact 𝓤 χ)))))
+  says-three t {φ} {ψ} {χ} {P} x y z = step (λ s. suffices t (sep 𝓤 (sep 𝓤 P (fact 𝓤 φ)) (sep 𝓤 (fact 𝓤 ψ) (fact 𝓤 χ))) (assoc∗ 𝓤 P (fact 𝓤 φ) (sep 𝓤 (fact 𝓤 ψ) (fact 𝓤 χ))) $ says-both t y z $ says t x $ s)
+
   module _ {G : Goal 𝓤 H} where
     -- a fact that a callee asks for
     pub knows : K → (φ : Type 0) → φ → Step K W (raw (fact 𝓤 φ) ∷ Γ) G Γ G
