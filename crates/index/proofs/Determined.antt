@@ -15,6 +15,10 @@ use Rattle.index.proofs.seconds_in.Reads as seconds-in
 use Rattle.index.proofs.seconds_in.Kinds as seconds-in-kinds
 use Rattle.index.proofs.row_at.Reads as row-at
 use Rattle.index.proofs.row_at.Kinds as row-at-kinds
+use Rattle.index.proofs.contact_of.Reads as contact-of
+use Rattle.index.proofs.contact_of.Kinds as contact-of-kinds
+use Rattle.index.proofs.numbers_of.Reads as numbers-of
+use Rattle.index.proofs.numbers_of.Kinds as numbers-of-kinds
 
 code-of-once : Once 3 code-of-kinds.ps code-of-kinds.r code-of.Post
 code-of-once κs a x y d e p q = p ∙ sym q
@@ -36,3 +40,9 @@ seconds-in-once κs a x y d e p q = p ∙ sym q
 
 row-at-once : Once 1 row-at-kinds.ps row-at-kinds.r row-at.Post
 row-at-once κs a x y d e p q = p ∙ sym q
+
+contact-of-once : Once 0 contact-of-kinds.ps contact-of-kinds.r contact-of.Post
+contact-of-once κs a x y d e p q = p ∙ sym q
+
+numbers-of-once : Once 0 numbers-of-kinds.ps numbers-of-kinds.r numbers-of.Post
+numbers-of-once κs a x y d e p q = p ∙ sym q

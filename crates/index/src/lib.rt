@@ -1,10 +1,29 @@
-// The record that the contact index keeps of a contact, as plain numbers: where its texts stand in the list, its code and its moment.
+// The record that the contact index keeps of a contact: where its texts stand in the list, its code and its moment. It is made and tested
+// as fourteen plain numbers, and kept as a `Contact`.
 ghost use mathlib.Core.Path.{_≡_};
 ghost use Prim.Native.Nat.{_≤_, _<_};
 ghost use lib.ListN.{getD};
 ghost use Rattle.letters.specs.Capitals.{capitals};
-ghost use Rattle.index.specs.Rows.{mix, mixed, codeOf, low, high, hasMoment, secondsIn, rowOf, rowBy, rowAt};
+ghost use Rattle.index.specs.Rows.{mix, mixed, codeOf, low, high, hasMoment, secondsIn, rowOf, joined, rowBy, rowAt};
+ghost use Rattle.index.specs.Contacts.{contactOf, numbersOf};
 use times::Moment;
+
+// A contact in a lent index. There is no gap between the numbers, so that each byte of a record is determined.
+#[repr(C)]
+pub struct Contact {
+    pub id: u64,
+    pub seconds: u64,
+    pub head: u32,
+    pub next: u32,
+    pub code: u32,
+    pub services: u32,
+    pub call: u32,
+    pub date: u32,
+    pub time: u32,
+    pub band: u32,
+    pub mode: u32,
+    pub timed: u32,
+}
 
 // The multiplier of the code, and 2^32, which cuts numbers in halves.
 const SPREAD: u64 = 2_654_435_761;
@@ -150,4 +169,54 @@ pub fn number_in(r: [u32; 14], column: usize) -> usize
     ensures { λ x. ⌜ x ≡ getD r column 0 ⌝ }
 {
     r[column] as usize
+}
+
+fn joined_halves(low: u32, high: u32) -> u64
+    ensures { λ r. ⌜ r ≡ joined low high ⌝ }
+{
+    low as u64 + high as u64 * HALF
+}
+
+// The fourteen numbers as a contact.
+pub fn contact_of(r: [u32; 14]) -> Contact
+    ensures { λ x. ⌜ x ≡ contactOf r ⌝ }
+{
+    Contact {
+        id: joined_halves(r[3], r[4]),
+        seconds: joined_halves(r[12], r[13]),
+        head: r[0],
+        next: r[1],
+        code: r[2],
+        services: r[5],
+        call: r[6],
+        date: r[7],
+        time: r[8],
+        band: r[9],
+        mode: r[10],
+        timed: r[11],
+    }
+}
+
+// A contact as the fourteen numbers.
+pub fn numbers_of(c: Contact) -> [u32; 14]
+    ensures { λ x. ⌜ x ≡ numbersOf c ⌝ }
+{
+    let id = c.id;
+    let seconds = c.seconds;
+    [
+        c.head,
+        c.next,
+        c.code,
+        low_half(id),
+        high_half(id),
+        c.services,
+        c.call,
+        c.date,
+        c.time,
+        c.band,
+        c.mode,
+        c.timed,
+        low_half(seconds),
+        high_half(seconds),
+    ]
 }

@@ -1,11 +1,11 @@
 -- The index built. Assumes nothing.
 use mathlib.Core.Path.{_≡_, refl, sym, ap, _∙_}
-use mathlib.Core.List.{List, [], _∷_, _++_}
+use mathlib.Core.List.{List, [], _∷_, _++_, append-nil}
 use Prim.Native.Nat.{ℕ, zero, suc, _+_, _-_, _≤_, _<_}
 use native.Mathlib.Nat.{zero-add}
 use native.Mathlib.Omega.{arith}
-use lib.ListN.{length, getD, take, drop, replicate, length-replicate}
-use lib.Seq.{sets, sets-eq, length-sets, take-append-seam}
+use lib.ListN.{length, drop, replicate, length-append, length-replicate, drop-of-length-le}
+use lib.Seq.{sets, sets-eq}
 use lib.Dec.{ltb}
 use borrow.Author.Tests.{lt-ltb, le-ltb, ltb-false}
 use Rattle.text.proofs.BoolLaws.{cases}
@@ -91,28 +91,25 @@ unfolding countIn
 few-some (Refused why) f = omega arith
 few-some (Marked n top) f = f
 
--- the records of the contacts, and zero behind them
-laid : (w was : List Row) (n m : ℕ) → length w ≡ n → length was ≡ m → n ≤ m
-    → take n (sets was 0 w) ++ replicate (length (sets was 0 w) - n) noRow ≡ w ++ replicate (m - n) noRow
-laid w was n m ew em h =
+-- the records of the contacts, and zero behind them, are all that there are
+laid : (w was : List Row) → length w ≡ length was → sets was 0 w ≡ w
+laid w was e =
     let z : 0 + length w ≡ length w = zero-add (length w) in
     let b : sets was 0 w ≡ w ++ drop (0 + length w) was = sets-eq w was 0 (omega arith) in
-    let t : take n (sets was 0 w) ≡ w = rw (b, ← ew) (take-append-seam w (drop (0 + length w) was)) in
-    let l : length (sets was 0 w) ≡ m = length-sets was 0 w ∙ em in
-    rw (t, l) refl
+    b ∙ rw (drop-of-length-le was {i = 0 + length w} (omega arith)) (append-nil w)
+
+bare-length : (s : List ℕ) (n m : ℕ) → n ≤ m → length (rowsFrom s n 5 ++ replicate (m - n) noRow) ≡ m
+bare-length s n m h = length-append (rowsFrom s n 5) (replicate (m - n) noRow) ∙ omega (arith, length-rows s n 5, length-replicate (m - n) noRow)
 
 none : (s : List ℕ) (m : ℕ) → rowsFrom s 0 5 ++ replicate (m - 0) noRow ≡ replicate m noRow
 unfolding rowsFrom
 none s m = let y : m - 0 ≡ m = omega arith in rw y refl
 
-rows-some : (s : List ℕ) (m : ℕ) (l : Listed) → indexedAs s m ≡ l → (was : List Row) → length was ≡ m
-    → chained (countIn l) (countIn l) (take (countIn l) (sets was 0 (rowsFrom s (countIn l) 5)) ++ replicate (length (sets was 0 (rowsFrom s (countIn l) 5)) - countIn l) noRow) ≡ indexBy l s m
+rows-some : (s : List ℕ) (m : ℕ) (l : Listed) → indexedAs s m ≡ l → chained (countIn l) (countIn l) (rowsFrom s (countIn l) 5 ++ replicate (m - countIn l) noRow) ≡ indexBy l s m
 unfolding countIn indexBy indexOf bareOf chained
-rows-some s m (Refused why) e was z =
-    laid (rowsFrom s 0 5) was 0 m (length-rows s 0 5) z (omega arith) ∙ none s m
-rows-some s m (Marked n top) e was z =
-    let c : n ≡ countOf s = accepted s n top (indexed-listed s m n top e) .count in
-    rw (laid (rowsFrom s n 5) was n m (length-rows s n 5) z (indexed-fits s m n top e)) (rw (← c) refl)
+rows-some s m (Refused why) e = none s m
+rows-some s m (Marked n top) e =
+    let c : n ≡ countOf s = accepted s n top (indexed-listed s m n top e) .count in rw (← c) refl
 
 module _ (s : List ℕ) (m : ℕ) (l : Listed) (el : l ≡ indexedAs s m) (n : ℕ) (en : n ≡ countIn l) where
   pub index-sound : 0 < n → Sound s n
@@ -124,8 +121,8 @@ module _ (s : List ℕ) (m : ℕ) (l : Listed) (el : l ≡ indexedAs s m) (n : �
   pub index-few : Few l → n < 4294967296
   index-few f = rw en (few-some l f)
 
-  pub index-done : (was filled cleared last : List Row) → m ≡ length was → filled ≡ sets was 0 (rowsFrom s n 5)
-      → cleared ≡ take n filled ++ replicate (length filled - n) noRow → last ≡ chained n n cleared → last ≡ indexAfter s m
+  pub index-done : (was filled last : List Row) → m ≡ length was → filled ≡ sets was 0 (rowsFrom s n 5 ++ replicate (m - n) noRow) → last ≡ chained n n filled → last ≡ indexAfter s m
   unfolding indexAfter
-  index-done was filled cleared last em ef ec e =
-      e ∙ rw (ec, ef, en) (rows-some s m l (sym el) was (sym em)) ∙ ap (λ (x : Listed). indexBy x s m) el
+  index-done was filled last em ef e =
+      let f : filled ≡ rowsFrom s n 5 ++ replicate (m - n) noRow = ef ∙ laid _ was (bare-length s n m (index-room m refl) ∙ em) in
+      e ∙ rw (f, en) (rows-some s m l (sym el)) ∙ ap (λ (x : Listed). indexBy x s m) el

@@ -2,17 +2,17 @@
 use mathlib.Core.Path.{refl, sym, _∙_}
 use denote.Ref.{now}
 use Rattle.text.proofs.Once.{Once, OnceWith}
-use Rattle.indexing.proofs.clear.Reads as clear
-use Rattle.indexing.proofs.clear.Kinds as clear-kinds
 use Rattle.indexing.proofs.listed_in.Reads as listed-in
 use Rattle.indexing.proofs.listed_in.Kinds as listed-in-kinds
 use Rattle.indexing.proofs.count_in.Reads as count-in
 use Rattle.indexing.proofs.count_in.Kinds as count-in-kinds
-use Rattle.indexing.proofs.build.Reads as build
-use Rattle.indexing.proofs.build.Kinds as build-kinds
-
-clear-once : OnceWith 1 clear-kinds.ps clear-kinds.r (λ κs d. now (d .0)) clear.Post
-clear-once κs a x y d e p q = (refl, p ∙ sym q)
+use Rattle.index.specs.Rows.{rowsFrom, noRow}
+use Rattle.index.specs.Contacts.{plain}
+use Rattle.index.proofs.ContactLaws.{plain-once}
+use Rattle.index.proofs.Agree.{Agrees, agree, agree-two}
+use Rattle.indexing.specs.Index.{indexedAs, indexAfter}
+use Rattle.indexing.proofs.fill as fill
+use Rattle.indexing.proofs.build as build
 
 listed-in-once : Once 1 listed-in-kinds.ps listed-in-kinds.r listed-in.Post
 listed-in-once κs a x y d e p q = p .0 ∙ sym (q .0)
@@ -20,6 +20,9 @@ listed-in-once κs a x y d e p q = p .0 ∙ sym (q .0)
 count-in-once : Once 0 count-in-kinds.ps count-in-kinds.r count-in.Post
 count-in-once κs a x y d e p q = p ∙ sym q
 
+fill-once : Agrees fill.ended (λ M 𝓤. fill.clauses 𝓤) (λ κs d. now (d .1 .0))
+fill-once M 𝓤 H A mem run κs a g x y d e = agree 𝓤 _ _ (λ p q. (refl, plain-once _ _ (p ∙ sym q)))
+
 -- the answer, and the index
-build-once : OnceWith 2 build-kinds.ps build-kinds.r (λ κs d. now (d .1 .0)) build.Post
-build-once κs a x y d e p q = (p .0 ∙ sym (q .0), p .1 ∙ sym (q .1))
+build-once : Agrees build.ended (λ M 𝓤. build.clauses 𝓤) (λ κs d. now (d .1 .0))
+build-once M 𝓤 H A mem run κs a g x y d e = agree-two 𝓤 _ _ _ _ (λ p q. (p .0 ∙ sym (q .0), plain-once _ _ (p .1 ∙ sym (q .1))))

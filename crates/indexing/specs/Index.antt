@@ -8,10 +8,10 @@ use lib.Dec.{ltb}
 use Rattle.text.specs.Pick.{pick}
 use Rattle.chain.specs.Chain.{col}
 use Rattle.refusals.specs.declared.Refusal.the-variants.{ShortTable}
-use Rattle.contacts.specs.Lists.{entriesFrom, countOf, listedAs}
+use Rattle.contacts.specs.Lists.{entriesFrom, countOf, listedAs, endAt}
 use Rattle.contacts.specs.declared.Listed.{Listed}
 use Rattle.contacts.specs.declared.Listed.the-variants.{Marked, Refused}
-use Rattle.index.specs.Rows.{Row, rowsFrom, noRow}
+use Rattle.index.specs.Rows.{Row, rowAt, rowsFrom, noRow}
 
 -- a record with another head, with another next
 abbrev pub withHead : Row → ℕ → Row
@@ -45,6 +45,13 @@ bucketOf rows n i = col rows i 2 % n
 unfoldable pub chained : ℕ → ℕ → List Row → List Row
 chained n zero rows = rows
 chained n (suc k) rows = pushed (chained n k rows) (bucketOf rows n k) k
+
+-- the record of index k of n contacts, the next of which stands at a place; and where the one after it stands
+unfoldable pub recordAt : List ℕ → ℕ → ℕ → ℕ → Row
+recordAt s at k n = pick (ltb k n) (rowAt s at) noRow
+
+unfoldable pub placeAfter : List ℕ → ℕ → ℕ → ℕ → ℕ
+placeAfter s at k n = pick (ltb k n) (endAt s at) at
 
 -- m lent records: those of the contacts, and zero behind them; then the chains
 unfoldable pub bareOf : List ℕ → ℕ → List Row

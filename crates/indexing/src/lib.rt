@@ -2,13 +2,15 @@
 // is built.
 ghost use mathlib.Core.Path.{_≡_};
 ghost use mathlib.Core.List.{_++_};
-ghost use Prim.Native.Nat.{_≤_, _<_, _-_};
-ghost use lib.ListN.{length, getD, take, replicate};
+ghost use Prim.Native.Nat.{_+_, _-_, _%_, _≤_, _<_};
+ghost use lib.ListN.{length, getD, replicate};
 ghost use lib.Seq.{sets};
 ghost use Rattle.contacts.specs.Lists.{Few};
 ghost use Rattle.index.specs.Rows.{rowsFrom, noRow};
-ghost use Rattle.indexing.specs.Index.{withHead, withNext, chained, indexedAs, indexAfter, countIn, Sound};
+ghost use Rattle.index.specs.Contacts.{contactOf, numbersOf, plain};
+ghost use Rattle.indexing.specs.Index.{withHead, withNext, recordAt, placeAfter, chained, indexedAs, indexAfter, countIn, Sound};
 use contacts::Listed;
+use index::Contact;
 use refusals::Refusal;
 
 fn no_row() -> [u32; 14]
@@ -17,40 +19,38 @@ fn no_row() -> [u32; 14]
     [0u32; 14]
 }
 
-// The first `to` records are zero, the others as they were.
-pub fn clear(rows: &mut [[u32; 14]], to: usize)
-    requires { ⌜ to ≤ length (now rows) ⌝ }
-    ensures { λ _. ⌜ now (rows .exit) ≡ sets (now (rows .entry)) 0 (replicate to noRow) ⌝ }
+// The record of index k: that of the contact at a place of the list, and zero from the n-th on.
+fn record_at(list: &[u8], at: usize, k: usize, n: usize) -> Contact
+    requires { ⌜ (k < n → at ≤ 16777216) ⌝ }
+    ensures { λ r. ⌜ r ≡ contactOf (recordAt (now (list .entry)) at k n) ⌝ }
 {
-    let mut i = 0;
-    while i < to {
-        rows[i] = no_row();
-        i += 1;
+    if k < n {
+        return index::contact_of(index::row_at(list, at));
     }
+    index::contact_of(no_row())
 }
 
-// The records from `from` on are zero, the others as they were.
-fn clear_rest(rows: &mut [[u32; 14]], from: usize)
-    requires { ⌜ from ≤ length (now rows) ⌝ }
-    ensures { λ _. ⌜ now (rows .exit) ≡ take from (now (rows .entry)) ++ replicate (length (now (rows .entry)) - from) noRow ⌝ }
+// Where the next contact stands.
+fn place_after(list: &[u8], at: usize, k: usize, n: usize) -> usize
+    requires { ⌜ (k < n → at ≤ 16777216) ⌝ }
+    ensures { λ r. ⌜ r ≡ placeAfter (now (list .entry)) at k n ⌝ }
 {
-    let mut i = from;
-    while i < rows.len() {
-        rows[i] = no_row();
-        i += 1;
+    if k < n {
+        return contacts::end_at(list, at);
     }
+    at
 }
 
-// The records of the list's n contacts.
-fn fill(list: &[u8], rows: &mut [[u32; 14]], n: usize)
-    requires { ⌜ (n ≤ length (now rows)) × (0 < n → Sound (now list) n) ⌝ }
-    ensures { λ _. ⌜ now (rows .exit) ≡ sets (now (rows .entry)) 0 (rowsFrom (now (list .entry)) n 5) ⌝ }
+// The first `to` records: those of the list's n contacts, and zero behind them. The others stay as they were.
+pub fn fill(list: &[u8], rows: &mut [Contact], n: usize, to: usize)
+    requires { ⌜ (n ≤ to) × (to ≤ length (now rows)) × (0 < n → Sound (now list) n) ⌝ }
+    ensures { λ _. ⌜ plain (now (rows .exit)) ≡ sets (plain (now (rows .entry))) 0 (rowsFrom (now (list .entry)) n 5 ++ replicate (to - n) noRow) ⌝ }
 {
     let mut at = 5;
     let mut k = 0;
-    while k < n {
-        rows[k] = index::row_at(list, at);
-        at = contacts::end_at(list, at);
+    while k < to {
+        rows[k] = record_at(list, at, k, n);
+        at = place_after(list, at, k, n);
         k += 1;
     }
 }
@@ -103,17 +103,41 @@ fn head_in(r: [u32; 14]) -> u32
     r[0]
 }
 
+// The chain of a contact's code, of n.
+fn chain_of(c: Contact, n: usize) -> usize
+    requires { ⌜ 0 < n ⌝ }
+    ensures { λ r. ⌜ r ≡ getD (numbersOf c) 2 0 % n ⌝ }
+{
+    index::number_in(index::numbers_of(c), 2) % n
+}
+
+// The contact, in front of what the chain of `first` begins with.
+fn in_front(c: Contact, first: Contact) -> Contact
+    ensures { λ r. ⌜ r ≡ contactOf (withNext (numbersOf c) (getD (numbersOf first) 0 0)) ⌝ }
+{
+    let head = head_in(index::numbers_of(first));
+    index::contact_of(with_next(index::numbers_of(c), head))
+}
+
+// The first of a chain, which now begins with contact k.
+fn begun_with(first: Contact, k: usize) -> Contact
+    requires { ⌜ k + 1 < 4294967296 ⌝ }
+    ensures { λ r. ⌜ r ≡ contactOf (withHead (numbersOf first) (k + 1)) ⌝ }
+{
+    index::contact_of(with_head(index::numbers_of(first), (k + 1) as u32))
+}
+
 // The chains of the first n records, which are in none: each goes to the front of the chain of its code's remainder.
-fn link(rows: &mut [[u32; 14]], n: usize)
+fn link(rows: &mut [Contact], n: usize)
     requires { ⌜ (n ≤ length (now rows)) × (n < 4294967296) ⌝ }
-    ensures { λ _. ⌜ now (rows .exit) ≡ chained n n (now (rows .entry)) ⌝ }
+    ensures { λ _. ⌜ plain (now (rows .exit)) ≡ chained n n (plain (now (rows .entry))) ⌝ }
 {
     let mut k = 0;
     while k < n {
-        let b = index::number_in(rows[k], 2) % n;
-        let was = head_in(rows[b]);
-        rows[k] = with_next(rows[k], was);
-        rows[b] = with_head(rows[b], (k + 1) as u32);
+        let c = rows[k];
+        let b = chain_of(c, n);
+        rows[k] = in_front(c, rows[b]);
+        rows[b] = begun_with(rows[b], k);
         k += 1;
     }
 }
@@ -149,14 +173,13 @@ pub fn count_in(listed: Listed) -> usize
 }
 
 // The index of a list. What the records held before is of no account.
-pub fn build(list: &[u8], rows: &mut [[u32; 14]]) -> Listed
+pub fn build(list: &[u8], rows: &mut [Contact]) -> Listed
     ensures { λ r. ⌜ r ≡ indexedAs (now (list .entry)) (length (now (rows .entry))) ⌝ }
-    ensures { λ _. ⌜ now (rows .exit) ≡ indexAfter (now (list .entry)) (length (now (rows .entry))) ⌝ }
+    ensures { λ _. ⌜ plain (now (rows .exit)) ≡ indexAfter (now (list .entry)) (length (now (rows .entry))) ⌝ }
 {
     let listed = listed_in(list, rows.len());
     let n = count_in(listed);
-    fill(list, rows, n);
-    clear_rest(rows, n);
+    fill(list, rows, n, rows.len());
     link(rows, n);
     listed
 }

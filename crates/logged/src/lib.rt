@@ -4,7 +4,9 @@ ghost use mathlib.Core.Path.{_≡_};
 ghost use Prim.Native.Nat.{_≤_, _<_};
 ghost use lib.ListN.{length};
 ghost use lib.Seq.{sets};
+ghost use Rattle.index.specs.Contacts.{plain};
 ghost use Rattle.logged.specs.Logged.{wantedIn, withHit, loggedRows, Searchable};
+use index::Contact;
 use search::Hit;
 use wanted::Wanted;
 
@@ -56,20 +58,21 @@ fn with_hit(r: [u32; 28], hit: Hit) -> [u32; 28]
 pub fn find_each(
     text: &[u8],
     list: &[u8],
-    index: &[[u32; 14]],
+    index: &[Contact],
     contacts: usize,
     limit: u64,
     rows: &mut [[u32; 28]],
     n: usize,
 )
-    requires { ⌜ (n ≤ length (now rows)) × Searchable (now list) contacts (now index) n ⌝ }
+    requires { ⌜ (n ≤ length (now rows)) × Searchable (now list) contacts (plain (now index)) n ⌝ }
     ensures { λ _. ⌜ now (rows .exit) ≡ sets (now (rows .entry)) 0 (loggedRows (now (text .entry)) (now (list .entry)) limit (now (rows .entry)) n) ⌝ }
 {
     let mut k = 0;
     while k < n {
-        let wanted = wanted_in(rows[k]);
+        let row = rows[k];
+        let wanted = wanted_in(row);
         let hit = search::find(text, list, index, contacts, wanted, limit);
-        rows[k] = with_hit(rows[k], hit);
+        rows[k] = with_hit(row, hit);
         k += 1;
     }
 }

@@ -63,11 +63,11 @@ module _ (s : List ℕ) (limit : ℕ) (other : List ℕ) (n k : ℕ) (rows : Lis
     unfolding Matching
     match-place = omega (arith, q .0 h .0, match-short)
 
-    pub match-on : (w : Wanted) (r : Hit) → w ≡ wantedAt other at → r ≡ hitOf s (firstFor other w limit s) → (to : ℕ) → to ≡ endAt other at → Matching s limit other k (i + 1) to was (set now i (r .number))
+    pub match-on : (w : Wanted) (r : Hit) (v : ℕ) → w ≡ wantedAt other at → r ≡ hitOf s (firstFor other w limit s) → v ≡ r .number → (to : ℕ) → to ≡ endAt other at → Matching s limit other k (i + 1) to was (set now i v)
     unfolding Matching Checked matchesFrom
-    match-on w r ew er to et =
+    match-on w r v ew er ev to et =
         let N = entries-next other k k (here .1) (k - (i + 1)) at (here .0) (here .2) in
-        let e : r .number ≡ matchFor s limit (contactAt other at) = match-is s other at limit w r ew er in (
+        let e : v ≡ matchFor s limit (contactAt other at) = ev ∙ match-is s other at limit w r ew er in (
           λ l. rw et (good-inside other at (N .good), (idAt other at, here .1, N .rest)),
           rw (e, et, add-one i) (rw (add-one i) at (rw left at (q .1))),
         )

@@ -5,21 +5,30 @@ ghost use lib.ListN.{length, replicate};
 ghost use lib.Seq.{sets};
 ghost use Rattle.times.specs.Window.{limitOf};
 ghost use Rattle.contacts.specs.Lists.{listedAs};
+ghost use Rattle.index.specs.Contacts.{plain};
 ghost use Rattle.indexing.specs.Index.{indexAfter};
 ghost use Rattle.lookup.specs.Lookup.{Asks, matchesFrom, searchedBy, searchedAs, foundAfter};
 use contacts::Listed;
+use index::Contact;
+use search::Hit;
+
+fn number_of(hit: Hit) -> u64
+    ensures { λ r. ⌜ r ≡ hit .number ⌝ }
+{
+    hit.number as u64
+}
 
 // The matches of the other list's k contacts.
 fn match_each(
     list: &[u8],
-    rows: &[[u32; 14]],
+    rows: &[Contact],
     n: usize,
     other: &[u8],
     k: usize,
     limit: u64,
     found: &mut [u64],
 )
-    requires { ⌜ (k ≤ length (now found)) × Asks (now list) n (now rows) (now other) k ⌝ }
+    requires { ⌜ (k ≤ length (now found)) × Asks (now list) n (plain (now rows)) (now other) k ⌝ }
     ensures { λ _. ⌜ now (found .exit) ≡ sets (now (found .entry)) 0 (matchesFrom (now (list .entry)) limit (now (other .entry)) k 5) ⌝ }
 {
     let mut at = 5;
@@ -27,7 +36,7 @@ fn match_each(
     while i < k {
         let wanted = wanted::wanted_at(other, at);
         let hit = search::find(other, list, rows, n, wanted, limit);
-        found[i] = hit.number as u64;
+        found[i] = number_of(hit);
         at = contacts::end_at(other, at);
         i += 1;
     }
@@ -61,11 +70,11 @@ pub fn look_up(
     list: &[u8],
     other: &[u8],
     window: i64,
-    rows: &mut [[u32; 14]],
+    rows: &mut [Contact],
     found: &mut [u64],
 ) -> Listed
     ensures { λ r. ⌜ r ≡ searchedAs (now (list .entry)) (now (other .entry)) (length (now (rows .entry))) (length (now (found .entry))) ⌝ }
-    ensures { λ _. ⌜ now (rows .exit) ≡ indexAfter (now (list .entry)) (length (now (rows .entry))) ⌝ }
+    ensures { λ _. ⌜ plain (now (rows .exit)) ≡ indexAfter (now (list .entry)) (length (now (rows .entry))) ⌝ }
     ensures { λ _. ⌜ now (found .exit) ≡ foundAfter (now (list .entry)) (limitOf window) (now (other .entry)) (length (now (rows .entry))) (length (now (found .entry))) ⌝ }
 {
     clear(found);

@@ -1,9 +1,5 @@
 -- The answers, by what the library says. Assumes nothing.
 use mathlib.Core.Path.{_≡_, refl, ap, _∙_}
-use mathlib.Core.List.{List}
-use lib.IntN.{ℤ}
-use Rattle.times.specs.Window.{limitOf}
-use Rattle.lookup.specs.Lookup.{foundAfter}
 use mathlib.Core.Bool.{true, false}
 use Prim.Native.Nat.{ℕ}
 use Rattle.refusals.specs.Refusals.{numberOf}
@@ -46,10 +42,6 @@ listed-answer l m r e q = q ∙ ap ofListed e
 
 pub fresh-answer : (f g : Freshness) (r : FreshAnswer) → f ≡ g → r ≡ ofFreshness f → r ≡ ofFreshness g
 fresh-answer f g r e q = q ∙ ap ofFreshness e
-
--- the window as it is handed on
-pub window-found : (s other : List ℕ) (m room : ℕ) (v w : ℤ) (found : List ℕ) → v ≡ w → found ≡ foundAfter s (limitOf v) other m room → found ≡ foundAfter s (limitOf w) other m room
-window-found s other m room v w found e q = rw e at q
 
 module _ (a : Appended) where
   pub appended-bytes : (n : ℕ) → a ≡ appended.Bytes n → (record { refusal = 0; length = n }) ≡ ofAppended a

@@ -1,2 +1,3 @@
 pub mod AnswerLaws
+mod Values
 pub mod Determined

@@ -4,12 +4,14 @@ ghost use lib.ListN.{length};
 ghost use Rattle.times.specs.Window.{limitOf};
 ghost use Rattle.contacts.specs.Contacts.{contact};
 ghost use Rattle.contacts.specs.Lists.{listedAs, freshAgainst};
+ghost use Rattle.index.specs.Contacts.{plain};
 ghost use Rattle.indexing.specs.Index.{indexedAs, indexAfter};
 ghost use Rattle.lookup.specs.Lookup.{searchedAs, foundAfter};
 ghost use Rattle.listwriter.specs.Append.{startAs, startAfter, appendAs, appendAfter};
 ghost use Rattle.ox_contacts.specs.Answers.{ofListed, ofFreshness, ofAppended};
 use contacts::Freshness;
 use contacts::Listed;
+use index::Contact;
 use listwriter::Appended;
 
 // A list's mark: how many contacts, and the largest id.
@@ -77,11 +79,11 @@ pub extern "C" fn ox_contacts_fresh(contacts: usize, largest: u64, list: &[u8]) 
     of_freshness(contacts::is_fresh(contacts, largest, list))
 }
 
-// The index of a list, in one record of 14 numbers a contact; zero throughout after a refusal.
+// The index of a list, in a record a contact; zero throughout after a refusal.
 #[no_mangle]
-pub extern "C" fn ox_contacts_index(list: &[u8], index: &mut [[u32; 14]]) -> MarkAnswer
+pub extern "C" fn ox_contacts_index(list: &[u8], index: &mut [Contact]) -> MarkAnswer
     ensures { λ r. ⌜ r ≡ ofListed (indexedAs (now (list .entry)) (length (now (index .entry)))) ⌝ }
-    ensures { λ _. ⌜ now (index .exit) ≡ indexAfter (now (list .entry)) (length (now (index .entry))) ⌝ }
+    ensures { λ _. ⌜ plain (now (index .exit)) ≡ indexAfter (now (list .entry)) (length (now (index .entry))) ⌝ }
 {
     of_listed(indexing::build(list, index))
 }
@@ -93,11 +95,11 @@ pub extern "C" fn ox_contacts_search(
     list: &[u8],
     other: &[u8],
     window: i64,
-    index: &mut [[u32; 14]],
+    index: &mut [Contact],
     found: &mut [u64],
 ) -> MarkAnswer
     ensures { λ r. ⌜ r ≡ ofListed (searchedAs (now (list .entry)) (now (other .entry)) (length (now (index .entry))) (length (now (found .entry)))) ⌝ }
-    ensures { λ _. ⌜ now (index .exit) ≡ indexAfter (now (list .entry)) (length (now (index .entry))) ⌝ }
+    ensures { λ _. ⌜ plain (now (index .exit)) ≡ indexAfter (now (list .entry)) (length (now (index .entry))) ⌝ }
     ensures { λ _. ⌜ now (found .exit) ≡ foundAfter (now (list .entry)) (limitOf window) (now (other .entry)) (length (now (index .entry))) (length (now (found .entry))) ⌝ }
 {
     of_listed(lookup::look_up(list, other, window, index, found))

@@ -1,2 +1,3 @@
 pub mod PlanAnswers
+mod Values
 pub mod Determined

@@ -3,8 +3,10 @@ ghost use mathlib.Core.Path.{_≡_};
 ghost use Prim.Native.Nat.{_≤_};
 ghost use lib.ListN.{length};
 ghost use Rattle.summary.specs.Summary.{answerTo, outputAfter};
+ghost use Rattle.index.specs.Contacts.{plain};
 ghost use Rattle.planner.specs.Planning.{asked, plannedAs, PlannedTo};
 ghost use Rattle.ox_import.specs.Plans.{noCounts, unplannedOf, ofPlanned, countsIn, planAnswer, InRows, ofLine};
+use index::Contact;
 use planner::Planned;
 use refusals::Refusal;
 use summary::Counts;
@@ -108,12 +110,12 @@ pub extern "C" fn ox_plan(
     window: i64,
     download: bool,
     table: &mut [u32],
-    index: &mut [[u32; 14]],
+    index: &mut [Contact],
     fates: &mut [[u32; 28]],
     confirmations: &mut [[u32; 5]],
 ) -> PlanAnswer
-    ensures { λ r. ⌜ r ≡ planAnswer (asked (now (text .entry)) (now (list .entry)) window download (now (table .entry)) (now (index .entry)) (now (fates .entry)) (now (confirmations .entry))) ⌝ }
-    ensures { λ _. ⌜ PlannedTo (asked (now (text .entry)) (now (list .entry)) window download (now (table .entry)) (now (index .entry)) (now (fates .entry)) (now (confirmations .entry))) (plannedAs (asked (now (text .entry)) (now (list .entry)) window download (now (table .entry)) (now (index .entry)) (now (fates .entry)) (now (confirmations .entry)))) (now (table .exit)) (now (index .exit)) (now (fates .exit)) (now (confirmations .exit)) ⌝ }
+    ensures { λ r. ⌜ r ≡ planAnswer (asked (now (text .entry)) (now (list .entry)) window download (now (table .entry)) (plain (now (index .entry))) (now (fates .entry)) (now (confirmations .entry))) ⌝ }
+    ensures { λ _. ⌜ PlannedTo (asked (now (text .entry)) (now (list .entry)) window download (now (table .entry)) (plain (now (index .entry))) (now (fates .entry)) (now (confirmations .entry))) (plannedAs (asked (now (text .entry)) (now (list .entry)) window download (now (table .entry)) (plain (now (index .entry))) (now (fates .entry)) (now (confirmations .entry)))) (now (table .exit)) (plain (now (index .exit))) (now (fates .exit)) (now (confirmations .exit)) ⌝ }
 {
     let planned = planner::plan(
         text,

@@ -1,18 +1,18 @@
 -- The promise of `plan` is met by one answer and one state of each lent table. Assumes nothing.
 use mathlib.Core.Path.{_≡_, sym, _∙_}
 use denote.Ref.{now}
-use Rattle.text.proofs.Once.{OnceWith}
-use Rattle.planner.proofs.plan.Reads as plan
-use Rattle.planner.proofs.plan.Kinds as plan-kinds
+use Rattle.index.proofs.ContactLaws.{plain-once}
+use Rattle.index.proofs.Agree.{Agrees, agree}
+use Rattle.planner.proofs.plan as plan
 
-plan-table-once : OnceWith 6 plan-kinds.ps plan-kinds.r (λ κs d. now (d .1 .1 .1 .1 .0)) plan.Post
-plan-table-once κs a x y d e p q = (p .answer ∙ sym (q .answer), p .tabled ∙ sym (q .tabled))
+plan-table-once : Agrees plan.ended (λ M 𝓤. plan.clauses 𝓤) (λ κs d. now (d .1 .1 .1 .1 .0))
+plan-table-once M 𝓤 H A mem run κs a g x y d e = agree 𝓤 _ _ (λ p q. (p .answer ∙ sym (q .answer), p .tabled ∙ sym (q .tabled)))
 
-plan-index-once : OnceWith 6 plan-kinds.ps plan-kinds.r (λ κs d. now (d .1 .1 .1 .1 .1 .0)) plan.Post
-plan-index-once κs a x y d e p q = (p .answer ∙ sym (q .answer), p .indexed ∙ sym (q .indexed))
+plan-index-once : Agrees plan.ended (λ M 𝓤. plan.clauses 𝓤) (λ κs d. now (d .1 .1 .1 .1 .1 .0))
+plan-index-once M 𝓤 H A mem run κs a g x y d e = agree 𝓤 _ _ (λ p q. (p .answer ∙ sym (q .answer), plain-once _ _ (p .indexed ∙ sym (q .indexed))))
 
-plan-fates-once : OnceWith 6 plan-kinds.ps plan-kinds.r (λ κs d. now (d .1 .1 .1 .1 .1 .1 .0)) plan.Post
-plan-fates-once κs a x y d e p q = (p .answer ∙ sym (q .answer), p .fated ∙ sym (q .fated))
+plan-fates-once : Agrees plan.ended (λ M 𝓤. plan.clauses 𝓤) (λ κs d. now (d .1 .1 .1 .1 .1 .1 .0))
+plan-fates-once M 𝓤 H A mem run κs a g x y d e = agree 𝓤 _ _ (λ p q. (p .answer ∙ sym (q .answer), p .fated ∙ sym (q .fated)))
 
-plan-cards-once : OnceWith 6 plan-kinds.ps plan-kinds.r (λ κs d. now (d .1 .1 .1 .1 .1 .1 .1 .0)) plan.Post
-plan-cards-once κs a x y d e p q = (p .answer ∙ sym (q .answer), p .carded ∙ sym (q .carded))
+plan-cards-once : Agrees plan.ended (λ M 𝓤. plan.clauses 𝓤) (λ κs d. now (d .1 .1 .1 .1 .1 .1 .1 .0))
+plan-cards-once M 𝓤 H A mem run κs a g x y d e = agree 𝓤 _ _ (λ p q. (p .answer ∙ sym (q .answer), p .carded ∙ sym (q .carded)))

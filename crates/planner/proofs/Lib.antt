@@ -2,3 +2,4 @@ pub mod FinishLaws
 pub mod ResultLaws
 pub mod AnswerLaws
 pub mod Determined
+pub mod Values

@@ -2,7 +2,8 @@
 use mathlib.Core.Path.{_≡_, refl, sym, ap, _∙_}
 use mathlib.Core.Bool.{Bool, true, false}
 use mathlib.Core.List.{List, [], _∷_, _++_, map}
-use Prim.Native.Nat.{ℕ, _/_, _≤_, _<_}
+use Prim.Native.Nat.{ℕ, _-_, _/_, _≤_, _<_}
+use native.Mathlib.Nat.{sub-zero}
 use native.Mathlib.Omega.{arith}
 use lib.IntN.{ℤ}
 use lib.Dec.{leb}
@@ -218,3 +219,8 @@ gone-within p m n e = rw e (by p)
     by : (q : Planned) → goneOf q m ≤ m
     by (Made b c d f g h i) = omega arith
     by (Refused w) = omega arith
+
+-- the records that are cleared, as those of no contact
+pub cleared-is : (s : List ℕ) (m : ℕ) (rows rows′ : List (List ℕ)) → rows′ ≡ sets rows 0 (Index.rowsFrom s 0 5 ++ replicate (m - 0) Index.noRow) → rows′ ≡ sets rows 0 (replicate m Index.noRow)
+unfolding Index.rowsFrom
+cleared-is s m rows rows′ e = rw (sub-zero m) at e

@@ -3,10 +3,12 @@
 // follow each other whatever the one before answered.
 ghost use mathlib.Core.Path.{_≡_};
 ghost use lib.ListN.{length};
+ghost use Rattle.index.specs.Contacts.{plain};
 ghost use Rattle.planner.specs.Planning.{asked, PlannedTo};
 ghost use Rattle.planner.specs.Finished.{largestIn, goneOf, Ready, Finished};
 use cards::Carded;
 use contacts::Listed;
+use index::Contact;
 use reader::Reading;
 use refusals::Refusal;
 
@@ -101,11 +103,11 @@ pub fn plan(
     window: i64,
     download: bool,
     table: &mut [u32],
-    index: &mut [[u32; 14]],
+    index: &mut [Contact],
     fates: &mut [[u32; 28]],
     cards: &mut [[u32; 5]],
 ) -> Planned
-    ensures { λ r. ⌜ PlannedTo (asked (now (text .entry)) (now (list .entry)) window download (now (table .entry)) (now (index .entry)) (now (fates .entry)) (now (cards .entry))) r (now (table .exit)) (now (index .exit)) (now (fates .exit)) (now (cards .exit)) ⌝ }
+    ensures { λ r. ⌜ PlannedTo (asked (now (text .entry)) (now (list .entry)) window download (now (table .entry)) (plain (now (index .entry))) (now (fates .entry)) (now (cards .entry))) r (now (table .exit)) (plain (now (index .exit))) (now (fates .exit)) (now (cards .exit)) ⌝ }
 {
     let limit = times::window::limit_of(window);
     let listed = indexing::build(list, index);
@@ -125,6 +127,6 @@ pub fn plan(
         cards,
     );
     let cleared = gone(planned, index.len());
-    indexing::clear(index, cleared);
+    indexing::fill(list, index, 0, cleared);
     planned
 }

@@ -25,6 +25,9 @@ use Rattle.chain.proofs.Walks.{First, first-start, first-on, first-end, next-le
 use Rattle.contacts.specs.Contacts.{Contact, contact, callOf, dateOf, timeOf, bandOf, modeOf}
 use Rattle.contacts.specs.Lists.{textAt, callAt, dateAt, timeAt, bandAt, modeAt, contactAt, contactsFrom, contactsOf, countOf}
 use Rattle.index.specs.Rows.{Row, low, high, joined, hasMoment, secondsIn, momentFrom, codeOf, rowOf, rowBy, rowAt}
+use Rattle.index.specs.Contacts.{numbersOf, noContact, plain}
+use Rattle.index.specs.declared.Contact as Kept
+use Rattle.index.proofs.ContactLaws.{plain-length, plain-at}
 use Rattle.indexing.specs.Index.{freeOf, bucketOf}
 use Rattle.indexing.proofs.ChainLaws.{hdOf, nxOf}
 use Rattle.indexing.proofs.BuildLaws.{indexed-listed}
@@ -213,6 +216,28 @@ module _ (s : List ℕ) (rows : List Row) (text : List ℕ) (w : Wanted) (limit 
   pub find-none : (n : ℕ) → Indexed s n rows → n ≡ 0 → hit 0 0 ≡ hitOf s (firstFor text w limit s)
   unfolding firstMatch contactsOf contactsFrom firstFrom placeOf
   find-none n I e = let z : countOf s ≡ 0 = sym (ready s n rows I .count) ∙ e in rw z refl
+
+-- ---- the same of the structs of the index
+module _ (s : List ℕ) (cs : List Kept.Contact) (text : List ℕ) (w : Wanted) (limit n code : ℕ) (I : Indexed s n (plain cs)) (ec : code ≡ codeFor text (w .key)) (hn : n ≡ 0 → ⊥) where
+  pub chain-in : code % n < length cs
+  chain-in = rw (plain-length cs) at (bucket-in s (plain cs) text w limit n code I hn)
+
+  pub find-first : (row : Row) (at : ℕ) → row ≡ numbersOf (getD cs (code % n) noContact) → at ≡ getD row 0 0 → Walking s (plain cs) text w limit n code at (hit 0 0)
+  find-first row at er ea = find-start s (plain cs) text w limit n code I ec hn at (ea ∙ rw (er, plain-at cs (code % n) chain-in) refl)
+
+  module _ (at : ℕ) (best : Hit) (W : Walking s (plain cs) text w limit n code at best) (na : at ≡ 0 → ⊥) where
+    pub contact-in : at - 1 < length cs
+    contact-in = rw (plain-length cs) at (row-in s (plain cs) text w limit n code I ec hn at best W na)
+
+    module _ (row : Row) (x : ℕ) (er : row ≡ numbersOf (getD cs (at - 1) noContact)) (ex : x ≡ getD row 1 0) where
+      there : row ≡ getD (plain cs) (at - 1) []
+      there = er ∙ sym (plain-at cs (at - 1) contact-in)
+
+      pub find-next : (y : Hit) → y ≡ pick (rowTested s row text w code limit) (hit at (entryIn row)) best → Walking s (plain cs) text w limit n code x y
+      find-next y ey = find-on s (plain cs) text w limit n code I ec hn at best W na x y (ey ∙ rw there refl) (ex ∙ rw there refl)
+
+      pub find-down : x < at
+      find-down = find-less s (plain cs) text w limit n code I ec hn at best W na x (ex ∙ rw there refl)
 
 pub short-list : (s : List ℕ) (n : ℕ) (rows : List Row) → Indexed s n rows → length s ≤ 16777216
 unfolding Indexed

@@ -1,3 +1,4 @@
 pub mod ReadyLaws
 pub mod FindLaws
 pub mod Determined
+pub mod Values

@@ -5,8 +5,11 @@ ghost use Prim.Native.Nat.{_≤_};
 ghost use lib.ListN.{length};
 ghost use Rattle.text.specs.Pick.{pick};
 ghost use Rattle.index.specs.Rows.{joined, momentFrom};
+ghost use Rattle.index.specs.Contacts.{plain};
+ghost use Rattle.wanted.specs.Wanted.{codeFor};
 ghost use Rattle.search.specs.Search.{near, hit, hitOf, firstFor, Indexed};
 ghost use Rattle.search.specs.Steps.{rowMoment, rowTested, entryIn};
+use index::Contact;
 use times::Moment;
 use wanted::Wanted;
 
@@ -109,32 +112,38 @@ fn found(
     best
 }
 
-// The first of the list's n contacts that matches what is wanted.
-pub fn find(
-    text: &[u8],
-    list: &[u8],
-    rows: &[[u32; 14]],
-    n: usize,
-    wanted: Wanted,
-    limit: u64,
-) -> Hit
-    requires { ⌜ Indexed (now list) n (now rows) ⌝ }
-    ensures { λ r. ⌜ r ≡ hitOf (now (list .entry)) (firstFor (now (text .entry)) wanted limit (now (list .entry))) ⌝ }
+fn no_hit() -> Hit
+    ensures { λ r. ⌜ r ≡ hit 0 0 ⌝ }
 {
-    let mut best = Hit {
+    Hit {
         number: 0,
         place: 0,
-    };
+    }
+}
+
+fn code_for(text: &[u8], wanted: Wanted) -> usize
+    ensures { λ r. ⌜ r ≡ codeFor (now (text .entry)) (wanted .key) ⌝ }
+{
+    wanted::code_of(text, wanted) as usize
+}
+
+// The first of the list's n contacts that matches what is wanted.
+pub fn find(text: &[u8], list: &[u8], rows: &[Contact], n: usize, wanted: Wanted, limit: u64) -> Hit
+    requires { ⌜ Indexed (now list) n (plain (now rows)) ⌝ }
+    ensures { λ r. ⌜ r ≡ hitOf (now (list .entry)) (firstFor (now (text .entry)) wanted limit (now (list .entry))) ⌝ }
+{
+    let mut best = no_hit();
     if n == 0 {
         return best;
     }
-    let code = wanted::code_of(text, wanted) as usize;
+    let code = code_for(text, wanted);
     let b = code % n;
-    let mut at = index::number_in(rows[b], 0);
+    let mut at = index::number_in(index::numbers_of(rows[b]), 0);
     while at != 0 {
         let i = at - 1;
-        best = found(list, rows[i], at, text, wanted, code, limit, best);
-        at = index::number_in(rows[i], 1);
+        let row = index::numbers_of(rows[i]);
+        best = found(list, row, at, text, wanted, code, limit, best);
+        at = index::number_in(row, 1);
     }
     best
 }
