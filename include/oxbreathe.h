@@ -591,9 +591,22 @@ ox_told ox_is_duplicate(const char *a, size_t a_length, ox_qso q, const char *b,
 
 enum ox_service { OX_LOTW = 1, OX_EQSL = 2, OX_QRZ = 4, OX_QSL = 8 };
 
-/* A row of the index, a contact. What C may care for: [3] and [4] the id, low half first; [5] the services; [6] to
- * [10] the places in the list of call, date, time, band and mode, each of its length byte. */
-typedef uint32_t ox_index_row[14];
+/* A contact in the index. `call` to `mode` are the places in the list of those texts, each of its length byte. What else
+ * there is, is the index's own. */
+typedef struct ox_contact {
+    uint64_t id;
+    uint64_t seconds; /* of its moment, since the first day of year 0 */
+    uint32_t head;    /* the last contact of the chain of this number, by number and one, or 0 */
+    uint32_t next;    /* the contact before this one in its own chain, likewise */
+    uint32_t code;    /* which contacts of one call, mode and band share */
+    uint32_t services;
+    uint32_t call;
+    uint32_t date;
+    uint32_t time;
+    uint32_t band;
+    uint32_t mode;
+    uint32_t timed; /* 1 where it has a moment */
+} ox_contact;
 
 /* A list's mark: how many contacts, and the largest id, 0 where there is none. */
 typedef struct ox_mark_answer {
@@ -646,13 +659,13 @@ ox_mark_answer ox_contacts_check(const uint8_t *list, size_t length);
  */
 ox_fresh_answer ox_contacts_fresh(size_t contacts, uint64_t largest, const uint8_t *list, size_t length);
 
-/* Builds the index of a list, a row for each contact, and gives the mark. Refuses as a list, then 19.
+/* Builds the index of a list, a record for each contact, and gives the mark. Refuses as a list, then 19.
  *
- *     ox_index_row index[1];
+ *     ox_contact index[1];
  *     assert(ox_contacts_index(list, used, index, 1).refusal == OX_ACCEPTED);
- *     assert(index[0][3] == 7 && memcmp(list + index[0][6], "\4W1AW", 5) == 0);
+ *     assert(index[0].id == 7 && memcmp(list + index[0].call, "\4W1AW", 5) == 0);
  */
-ox_mark_answer ox_contacts_index(const uint8_t *list, size_t length, ox_index_row *index, size_t rows);
+ox_mark_answer ox_contacts_index(const uint8_t *list, size_t length, ox_contact *index, size_t records);
 
 /* For each contact of `other` the number, from 1, of the first contact of `list` that it matches within `window`
  * seconds, or 0; and the mark of `other`. Refused, the matches are zero throughout. The index is left as
@@ -662,7 +675,7 @@ ox_mark_answer ox_contacts_index(const uint8_t *list, size_t length, ox_index_ro
  *     assert(ox_contacts_search(list, used, list, used, 1800, index, 1, matches, 1).contacts == 1 && matches[0] == 1);
  */
 ox_mark_answer ox_contacts_search(const uint8_t *list, size_t length, const uint8_t *other, size_t other_length,
-                                  int64_t window, ox_index_row *index, size_t rows, uint64_t *matches, size_t count);
+                                  int64_t window, ox_contact *index, size_t records, uint64_t *matches, size_t count);
 
 
 /* ==== Plans =================================================================================================== */
@@ -712,7 +725,7 @@ typedef struct ox_plan_answer {
 
 /* What importing a text would do to the log whose contacts the list has, two contacts being one within `window`
  * seconds; where `download`, what a download of confirmations would do. Always enough are: of the table a row for each
- * < of the text; of the index a row for each contact; of the fates OX_MOST_RECORDS, or a row for two < and one more;
+ * < of the text; of the index a record for each contact; of the fates OX_MOST_RECORDS, or a row for two < and one more;
  * of the confirmations four rows for each record, or for each contact.
  * Refuses: as the list; 19 for the index; as ox_read; 19 for the fates; 19 for the confirmations.
  *
@@ -727,7 +740,7 @@ typedef struct ox_plan_answer {
  *     assert(fates[0][0] == OX_DUPLICATE_IN_LOG && fates[1][0] == OX_UNUSABLE && fates[1][1] == OX_NO_CALL);
  */
 ox_plan_answer ox_plan(const char *text, size_t length, const uint8_t *list, size_t list_length, int64_t window,
-                       bool download, uint32_t *table, size_t numbers, ox_index_row *index, size_t contacts,
+                       bool download, uint32_t *table, size_t numbers, ox_contact *index, size_t contacts,
                        ox_fate_row *fates, size_t records, ox_confirmation_row *confirmations, size_t count);
 
 #define OX_SUMMARY 268 /* bytes, the longest summary */

@@ -26,7 +26,7 @@ pub fn rows() -> [Row; 3] {
 }
 
 thread_local! {
-    static INDEX: RefCell<Vec<sys::Record>> = RefCell::new(vec![[0; 14]; 100_000]);
+    static INDEX: RefCell<Vec<sys::Record>> = RefCell::new(vec![sys::Record::default(); 100_000]);
     static FOUND: RefCell<Vec<u64>> = RefCell::new(vec![0; 10_000]);
 }
 

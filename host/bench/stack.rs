@@ -166,7 +166,7 @@ fn records() -> Vec<Taken> {
 fn contacts() -> Vec<Taken> {
     let list = list(10_000);
     let text: String = (0..20_000).map(record).collect();
-    let (mut index, mut found) = (vec![[0; 14]; 10_000], vec![0; 10_000]);
+    let (mut index, mut found) = (vec![sys::Record::default(); 10_000], vec![0; 10_000]);
     let mut tables = oxbreathe::plan::Tables::new(text.as_bytes(), &list);
     let mut out = list.clone();
     out.resize(list.len() + 100, 0);

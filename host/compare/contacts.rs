@@ -141,15 +141,30 @@ fn moment(contact: &Contact) -> Option<i64> {
     Some((days + 60) * 86_400 + hour * 3_600 + minute * 60 + second)
 }
 
+/// A record that something was left in.
+pub const USED: Record = Record {
+    id: 7,
+    seconds: 7,
+    head: 7,
+    next: 7,
+    code: 7,
+    services: 7,
+    call: 7,
+    date: 7,
+    time: 7,
+    band: 7,
+    mode: 7,
+    timed: 7,
+};
+
 /// The index, with its chains.
 pub fn indexed(list: &[u8], room: usize) -> (MarkAnswer, Vec<Record>) {
-    let mut index = vec![[0; 14]; room];
+    let mut index = vec![Record::default(); room];
     let answer = marked(list);
     let Ok(contacts) = read(list) else { return (answer, index) };
     if contacts.len() > room {
         return (MarkAnswer { refusal: 19, ..MarkAnswer::default() }, index);
     }
-    let half = |n: u64| [n as u32, (n >> 32) as u32];
     for (row, (place, contact)) in index.iter_mut().zip(&contacts) {
         let mut at = *place as u32 + 11;
         let places = contact.texts().map(|text| {
@@ -158,19 +173,19 @@ pub fn indexed(list: &[u8], room: usize) -> (MarkAnswer, Vec<Record>) {
             here
         });
         let bytes = contact.call.iter().chain(&contact.mode).chain(&contact.band).map(u8::to_ascii_uppercase);
-        row[2] = bytes.fold(0, |h: u32, b| h.wrapping_mul(2_654_435_761).wrapping_add(b as u32));
-        row[3..5].copy_from_slice(&half(contact.id));
-        row[5] = contact.services as u32;
-        row[6..11].copy_from_slice(&places);
+        row.code = bytes.fold(0, |h: u32, b| h.wrapping_mul(2_654_435_761).wrapping_add(b as u32));
+        row.id = contact.id;
+        row.services = contact.services as u32;
+        [row.call, row.date, row.time, row.band, row.mode] = places;
         if let Some(seconds) = moment(contact) {
-            row[11] = 1;
-            row[12..].copy_from_slice(&half(seconds as u64));
+            row.timed = 1;
+            row.seconds = seconds as u64;
         }
     }
     for i in 0..contacts.len() {
-        let chain = index[i][2] as usize % contacts.len();
-        index[i][1] = index[chain][0];
-        index[chain][0] = i as u32 + 1;
+        let chain = index[i].code as usize % contacts.len();
+        index[i].next = index[chain].head;
+        index[chain].head = i as u32 + 1;
     }
     (answer, index)
 }
@@ -344,7 +359,7 @@ fn limits(g: &mut Group) {
     let length = list.len();
     let answer = sys::contacts_check(&list);
     g.same(&list[..0], (length, answer), (LONGEST, marked(&list)));
-    let mut index = vec![[7; 14]; contacts.len()];
+    let mut index = vec![USED; contacts.len()];
     let answer = sys::contacts_index(&list, &mut index);
     let (expected, rows) = indexed(&list, contacts.len());
     g.same(&list[..0], (answer, index == rows), (expected, true));
@@ -367,7 +382,7 @@ fn indexes(g: &mut Group) {
         }
         // short by one, exact, and with records left over
         let room = (count + g.random.place(4)).saturating_sub(1);
-        let mut index = vec![[7; 14]; room];
+        let mut index = vec![USED; room];
         let answer = sys::contacts_index(&list, &mut index);
         g.same(&list[..], (answer, index), indexed(&list, room));
     }
@@ -407,7 +422,7 @@ fn searches(g: &mut Group) {
             _ => (),
         }
         let window = window(&mut g.random);
-        let (mut index, mut found) = (vec![[7; 14]; rooms.0], vec![7; rooms.1]);
+        let (mut index, mut found) = (vec![USED; rooms.0], vec![7; rooms.1]);
         let answer = sys::contacts_search(&list, &other, window, &mut index, &mut found);
         let (expected, numbers) = searched(&list, &other, window, rooms);
         g.same(&list[..], (answer, index), (expected, indexed(&list, rooms.0).1));
@@ -429,7 +444,7 @@ fn large(g: &mut Group) {
             asked.sort_by_key(|c| c.id);
             asked.dedup_by_key(|c| c.id);
             let (list, other) = (written(&contacts), written(&asked));
-            let (mut index, mut found) = (vec![[7; 14]; count], vec![7; asked.len()]);
+            let (mut index, mut found) = (vec![USED; count], vec![7; asked.len()]);
             let answer = sys::contacts_search(&list, &other, 1800, &mut index, &mut found);
             let (expected, numbers) = searched(&list, &other, 1800, (count, asked.len()));
             g.same(&list[..0], answer, expected);

@@ -10,7 +10,7 @@ use original::adif::{adif_header, hz_to_mhz_string, mhz_string_to_hz, parse_adif
 use original::rusqlite::Connection;
 use original::{dedupe, import};
 use oxbreathe::LONGEST;
-use oxbreathe::sys::{self, Fated, Place};
+use oxbreathe::sys::{self, Fated, Place, Record};
 
 pub fn run(run: &mut Run) {
     run.group("differences/texts", texts);
@@ -164,10 +164,10 @@ fn lists(g: &mut Group) {
     g.same("lists", [check(&[2, 0, 0, 0, 0]), check(&[]), check(&[1, 0, 0, 0, 1])], [16, 17, 17]);
     g.same("lists", check(&contacts::written(&[contact(7, "20260301"), contact(7, "20260301")])), 18);
     let two = contacts::written(&[contact(7, "20260301"), contact(8, "20260231")]);
-    let mut index = [[7; 14]; 1];
-    g.same("an index of one", (sys::contacts_index(&two, &mut index).refusal, index), (19, [[0; 14]]));
+    let mut index = [contacts::USED; 1];
+    g.same("an index of one", (sys::contacts_index(&two, &mut index).refusal, index), (19, [Record::default()]));
     // the first contact is found by itself, the second, of no day, by nothing
-    let (mut index, mut found) = ([[7; 14]; 2], [7; 2]);
+    let (mut index, mut found) = ([contacts::USED; 2], [7; 2]);
     let answer = sys::contacts_search(&two, &two, i64::MAX, &mut index, &mut found);
     g.same("no day", (answer.refusal, found, dedupe::parse_dt("20260231", "1200")), (0, [1, 0], None));
 }
@@ -189,8 +189,8 @@ fn planning(g: &mut Group) {
     g.same(&*inexact, planned(&inexact, 1800), (vec![[4, 5]], 1));
     let leap = record("120060", "") + &record("120059", "");
     g.same(&*leap, planned(&leap, 1), (vec![[1, 0], [1, 0]], 1));
-    let (mut table, mut index) = ([7; 40], [[7; 14]; 1]);
+    let (mut table, mut index) = ([7; 40], [contacts::USED; 1]);
     let text = record("120000", "");
     let answer = sys::plan(text.as_bytes(), &EMPTY, 0, false, &mut table, &mut index, &mut [], &mut []);
-    g.same(&*text, (answer.refusal, table == [0; 40], index), (19, true, [[0; 14]]));
+    g.same(&*text, (answer.refusal, table == [0; 40], index), (19, true, [Record::default()]));
 }

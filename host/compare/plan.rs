@@ -50,7 +50,7 @@ fn ours(case: &Case, rooms: Rooms) -> Left {
     let mut left = Left {
         answer: PlanAnswer::default(),
         table: vec![0xEEEE_EEEE; rooms.numbers],
-        index: vec![[7; 14]; rooms.index],
+        index: vec![contacts::USED; rooms.index],
         fates: vec![[7; 28]; rooms.fates],
         confirmations: vec![[7; 5]; rooms.confirmations],
     };
@@ -286,7 +286,7 @@ fn expected(case: &Case, rooms: Rooms) -> (Left, Option<Theirs>) {
     let mut left = Left {
         answer: PlanAnswer::default(),
         table: vec![0; rooms.numbers],
-        index: vec![[0; 14]; rooms.index],
+        index: vec![Record::default(); rooms.index],
         fates: vec![[0; 28]; rooms.fates],
         confirmations: vec![[0; 5]; rooms.confirmations],
     };

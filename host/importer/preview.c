@@ -185,7 +185,7 @@ static int preview(text file, const list *l) {
     size_t records = tags / 2 + 1 < OX_MOST_RECORDS ? tags / 2 + 1 : OX_MOST_RECORDS;
     size_t most = 4 * (records < l->contacts ? records : l->contacts);
     uint32_t *table = lent(numbers, sizeof *table);
-    ox_index_row *index = lent(l->contacts, sizeof *index);
+    ox_contact *index = lent(l->contacts, sizeof *index);
     ox_fate_row *told = lent(records, sizeof *told);
     ox_confirmation_row *confirmations = lent(most, sizeof *confirmations);
     ox_plan_answer plan = ox_plan(file.bytes, file.length, l->bytes, l->length, WINDOW, false, table, numbers, index,

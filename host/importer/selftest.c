@@ -387,13 +387,13 @@ static void lists(void) {
     ox_fresh_answer stale = ox_contacts_fresh(2, 9, list, length - 1);
     CHECK(stale.refusal == OX_MALFORMED_LIST && !stale.fresh);
 
-    ox_index_row index[3];
+    ox_contact index[3];
     FILL(index);
     CHECK(ox_contacts_index(list, length, index, 1).refusal == OX_SHORT_TABLE && IS_ZERO(index[0]));
     CHECK(IS_UNTOUCHED(index[1]));
     CHECK(ox_contacts_index(list, length, index, 3).largest == 9 && IS_ZERO(index[2]));
-    CHECK(index[1][3] == 9 && index[1][4] == 0 && index[0][5] == OX_LOTW);
-    CHECK(memcmp(list + index[1][8], "\0041800", 5) == 0);
+    CHECK(index[1].id == 9 && index[0].services == OX_LOTW);
+    CHECK(memcmp(list + index[1].time, "\0041800", 5) == 0);
 
     uint64_t matches[4];
     FILL(matches);
@@ -406,7 +406,7 @@ static void lists(void) {
     CHECK(mark.refusal == OX_SHORT_TABLE && matches[0] == 0);
     FILL(matches);
     mark = ox_contacts_search(list, length, list, 7, 1800, index, 3, matches, 4);
-    CHECK(mark.refusal == OX_MALFORMED_LIST && IS_ZERO(matches) && index[0][3] == 7);
+    CHECK(mark.refusal == OX_MALFORMED_LIST && IS_ZERO(matches) && index[0].id == 7);
     mark = ox_contacts_search(list, length - 1, list, length, 1800, index, 3, matches, 4);
     CHECK(mark.refusal == OX_MALFORMED_LIST && IS_ZERO(index));
     list[14] = 9; /* the first id becomes the second */
@@ -416,7 +416,7 @@ static void lists(void) {
 /* The tables of a plan, all of them used. */
 typedef struct tables {
     uint32_t table[22 * OX_ROW];
-    ox_index_row index[2];
+    ox_contact index[2];
     ox_fate_row fates[5];
     ox_confirmation_row confirmations[2];
 } tables;

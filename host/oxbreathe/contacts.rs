@@ -136,7 +136,7 @@ impl<'a> List<'a> {
     /// # Ok::<(), oxbreathe::Refusal>(())
     /// ```
     pub fn new(bytes: &'a [u8]) -> Result<List<'a>, Refusal> {
-        let mut index = vec![[0; 14]; most(bytes)];
+        let mut index = vec![sys::Record::default(); most(bytes)];
         let mark = Mark::told(sys::contacts_index(bytes, &mut index))?;
         Ok(List { bytes, index, mark })
     }
@@ -152,7 +152,7 @@ impl<'a> List<'a> {
     }
 
     fn contact(&self, record: &sys::Record) -> Contact<'a> {
-        let &[_, _, _, low, high, services, call, date, time, band, mode, ..] = record;
+        let &sys::Record { id, services, call, date, time, band, mode, .. } = record;
         let bytes = self.bytes;
         let text = |place: u32| {
             let (&length, rest) = bytes.get(place as usize..)?.split_first()?;
@@ -160,7 +160,7 @@ impl<'a> List<'a> {
         };
         let [call, date, time, band, mode] = [call, date, time, band, mode].map(|at| text(at).unwrap_or_default());
         let services = Service::ALL.iter().copied().filter(|service| services & service.number() != 0).collect();
-        Contact { id: joined(low, high), services, call, date, time, band, mode }
+        Contact { id, services, call, date, time, band, mode }
     }
 
     /// For each contact of another list, the first contact of this one that it matches within so many seconds.

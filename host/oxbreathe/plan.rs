@@ -244,7 +244,7 @@ impl Tables {
         let contacts = contacts::most(list);
         Tables {
             rows: reading::table(text),
-            index: vec![[0; 14]; contacts],
+            index: vec![sys::Record::default(); contacts],
             fates: vec![[0; 28]; records],
             confirmations: vec![[0; 5]; 4 * records.min(contacts)],
         }

@@ -98,6 +98,12 @@ structs! {
     FreshAnswer [refusal] { fresh: bool }
     /// How many bytes a list has after a contact was appended.
     AppendAnswer [refusal] { length: usize }
+    /// What the contact index keeps of a contact: its id, the services that confirmed it, and where the length bytes of call,
+    /// date, time, band and mode stand in the list. The rest is the index's own.
+    Record [] {
+        id: u64, seconds: u64, head: u32, next: u32, code: u32, services: u32,
+        call: u32, date: u32, time: u32, band: u32, mode: u32, timed: u32
+    }
 
     /// What a plan counts: records, those to import, contacts and services newly confirmed and confirmed already, duplicates,
     /// confirmations that match no contact, and unusable records.
@@ -115,10 +121,6 @@ pub const ROW: usize = 5;
 
 /// A field: the number of its record, from 1, and the places and lengths of its name and its value.
 pub type Row = [u32; ROW];
-
-/// What the contact index keeps of a contact: at 3 and 4 the id, low half first, at 5 the services, at 6 to 10 where the
-/// length bytes of call, date, time, band and mode stand in the list. The rest is the index's own.
-pub type Record = [u32; 14];
 
 /// A record's fate and reason; the rest is room to work in, and zero after the call.
 pub type Fated = [u32; 28];

@@ -1,1 +1,2 @@
+mod LocalLaws
 pub mod PrintedLaws

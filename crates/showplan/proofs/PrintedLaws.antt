@@ -5,6 +5,9 @@ use mathlib.Core.List.{List, [], _∷_, _++_}
 use Prim.Native.Nat.{ℕ, _+_, _*_, _≤_, _<_}
 use native.Mathlib.Omega.{arith}
 use lib.Dec.{leb}
+use lib.IntN.{ℤ}
+use Rattle.index.specs.Contacts.{plain}
+use Rattle.index.specs.declared.Contact.{Contact}
 use lib.ListN.{length, take}
 use lib.Seq.{length-take-le}
 use borrow.Author.Tests.{le-leb, lt-leb, leb-true}
@@ -24,13 +27,14 @@ use Rattle.indexing.specs.Index.{indexedAs}
 use Rattle.summary.specs.Summary.{summaryText}
 use Rattle.plan.specs.Fates.{fatesIn}
 use Rattle.plan.specs.Plan.{countsWith}
-use Rattle.planner.specs.Planning.{Asked, planFor, made, plannedRead, plannedBy, plannedAs, fatesBy, PlannedTo}
+use Rattle.planner.specs.Planning
+use Rattle.planner.specs.Planning.{Asked, asked, planFor, made, plannedRead, plannedBy, plannedAs, fatesBy, PlannedTo}
 use Rattle.planner.specs.declared.Planned.{Planned}
 use Rattle.planner.specs.declared.Planned.the-variants.{Made, Refused}
 use Rattle.show.specs.Shown.{newline, linesOf, planText, refusedText, tooLongText}
 use Rattle.show.proofs.LineLaws.{few, joined-few, lines-few}
 use Rattle.show.proofs.PlanLaws.{summary-few}
-use Rattle.showplan.specs.Printed.{recordsIn, shownText, askedOf, printed}
+use Rattle.showplan.specs.Printed.{recordsIn, shownText, askedOf, askedIn, PlannedIn, printed}
 
 -- ---- a plan has at most as many records as fates were lent
 kept-within : (n m : ℕ) (u : Bool) (p : Planned) → recordsIn p ≡ n → recordsIn (pick (leb n m) (pick u p (Refused ShortTable)) (Refused ShortTable)) ≤ m
@@ -121,3 +125,11 @@ module _ (a : Asked) (plan : Planned) (table : List ℕ) (index fates cards : Li
   pub planned-put : (text : List ℕ) (r : ℕ) (was now : List ℕ) → a ≡ askedOf text → length text ≤ 49152 → Put r was now 0 (shownText fates plan) → Put r was now 0 (printed text)
   planned-put text r was now e h =
       plan-put text r was now h plan fates (p .answer ∙ ap plannedAs e) (p .fated ∙ ap (λ (b : Asked). fatesBy b (plannedAs b)) e)
+
+-- ---- with an index of the function's own
+pub planned-alone : (text list : List ℕ) (window : ℤ) (table : List ℕ) (fates cards : List (List ℕ)) (cs : List Contact) → length (plain cs) ≡ 1 → (r : Planned) (table′ : List ℕ) (index fates′ cards′ : List (List ℕ))
+    → PlannedTo (asked text list window false table (plain cs) fates cards) r table′ index fates′ cards′ → PlannedIn text list window table fates cards r table′ fates′ cards′
+planned-alone text list window table fates cards cs e r table′ index fates′ cards′ p =
+    let a : asked text list window false table (plain cs) fates cards ≡ askedIn text list window table fates cards = ap (λ (n : ℕ). Planning.askedOf text list window false (length table) n (length fates) (length cards)) e in
+    let q : PlannedTo (askedIn text list window table fates cards) r table′ index fates′ cards′ = rw a at p in
+    record { answer = q .answer; tabled = q .tabled; indexed = refl; fated = q .fated; carded = q .carded }

@@ -1,8 +1,11 @@
 // What importing the ADIF text on standard input would do to an empty log, at a window of 1800 seconds.
+ghost use mathlib.Core.Path.{_≡_};
 ghost use Prim.Native.Nat.{_≤_};
 ghost use lib.ListN.{length};
 ghost use Rattle.output.specs.Put.{Put};
-ghost use Rattle.showplan.specs.Printed.{recordsIn, shownText, printed};
+ghost use Rattle.index.specs.Contacts.{noContact};
+ghost use Rattle.showplan.specs.Printed.{recordsIn, shownText, PlannedIn, printed};
+use index::Contact;
 use planner::Planned;
 
 // The longest text, in bytes.
@@ -35,6 +38,27 @@ fn show_planned(plan: Planned, fates: &[[u32; 28]], out: &mut [u8]) -> usize
     }
 }
 
+fn no_contact() -> Contact
+    ensures { λ r. ⌜ r ≡ noContact ⌝ }
+{
+    index::contact_of([0u32; 14])
+}
+
+// The plan against a list. The index has one record, which is more than enough for a list with no contact.
+fn planned_in(
+    text: &[u8],
+    list: &[u8],
+    window: i64,
+    table: &mut [u32],
+    fates: &mut [[u32; 28]],
+    cards: &mut [[u32; 5]],
+) -> Planned
+    ensures { λ r. ⌜ PlannedIn (now (text .entry)) (now (list .entry)) window (now (table .entry)) (now (fates .entry)) (now (cards .entry)) r (now (table .exit)) (now (fates .exit)) (now (cards .exit)) ⌝ }
+{
+    let mut index = [no_contact(); 1];
+    planner::plan(text, list, window, false, table, &mut index, fates, cards)
+}
+
 // What is printed of a text, put at the front of the output.
 fn shown(text: &[u8], out: &mut [u8]) -> usize
     requires { ⌜ 196608 ≤ length (now out) ⌝ }
@@ -45,16 +69,13 @@ fn shown(text: &[u8], out: &mut [u8]) -> usize
         return show::write_too_long(out);
     }
     let mut table = [0u32; 15000];
-    let mut index = [[0u32; 14]; 3000];
     let mut fates = [[0u32; 28]; 3000];
     let mut cards = [[0u32; 5]; 3000];
-    let plan = planner::plan(
+    let plan = planned_in(
         text,
         b"\x01\0\0\0\0",
         1800,
-        false,
         &mut table,
-        &mut index,
         &mut fates,
         &mut cards,
     );

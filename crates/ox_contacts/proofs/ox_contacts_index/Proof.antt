@@ -83,26 +83,26 @@ module _ {M : Type 1} (𝓤 : URA M) (H : Heap 𝓤) (A : Atoms 𝓤) (W : Given
       → ent 𝓤 (onEntry 𝓤 H A f.signature (κ₀, (κ₁, tt)) (q₀, (q₁, tt)) (ref b-list o-list γ-list list, (ref b-index o-index γ-index index, tt)) at) (WpFn 𝓤 H (𝓣 .C) (𝓣 .Λ) code.function (sliceVal (b-list, o-list) (length list) ∷ sliceVal (b-index, o-index) (length index) ∷ []) Post)
   walk 𝓣 fm build-known of-listed-known =
       qed W ((‵ (flft κ₀ q₀) ⊛ ‵ (flft κ₁ q₁) ⊛ ‵ ftrue) ∷ ‵ (owns (ShrSlice (named 0) κ₀ u8 ∷ MutSlice (named 1) κ₁ T.the-row ∷ []) (ref b-list o-list γ-list list, (ref b-index o-index γ-index index, tt)) at) ∷ []) ∵ enter ! (𝓣 .C) (𝓣 .Λ) code.function (sliceVal (b-list, o-list) (length list) ∷ sliceVal (b-index, o-index) (length index) ∷ []) _ $
-        alloc1 ! (λ l₀. alloc1 ! (λ l₁. alloc1 ! (λ l₂. alloc1 ! (λ l₃. alloc1 ! (λ l₄. alloc1 ! (λ l₅. alloc0 ! $ params1 ! $
-        pass1 ! (init ! 8 refl (tt, (tt, (record { fits = room-list .0 }, tt)))) $ pass1 ! (init ! 6 refl (tt, (tt, (record { fits = room-index .0 }, tt)))) $ pass0 ! $
-        move ! (12 ∷ []) $ split ! $ move ! (1 ∷ []) $ split ! $ move ! (1 ∷ []) $ drop ! $ move ! (14 ∷ []) $ fsplit ! $ move ! (1 ∷ []) $ fsplit ! $ move ! (1 ∷ []) $ drop ! $
-        assigns ! (addr ! (from ! (fld ! refl (hop ! (look-in ! 10 (sub ! 0 refl (whole !))) (stop !))))) (from ! (stop !)) (init ! 6 refl (tt, tt)) $
-        assigns ! (agg ! (and-then ! (load ! (from ! (stop !)) (look ! 6 refl)) (and-then ! (load ! (from ! (fld ! refl (stop !))) (look-in ! 10 (sub ! 1 refl (whole !)))) (no-more !)))) (from ! (stop !)) (init ! 4 refl (tt, (tt, (record { fits = room-index .0 }, tt)))) $
-        move ! (1 ∷ []) $ shr-twice ! u8 b-list o-list list $ move ! (2 ∷ 3 ∷ []) $ lends-on ! tt T.the-row b-index o-index (length index) index refl room-index (λ α δ.
-        nothing ! $ move ! (2 ∷ 0 ∷ []) $ join ! $ move ! (5 ∷ 0 ∷ []) $ join ! $ nothing ! $ move ! (2 ∷ 0 ∷ []) $ fjoin ! $ move ! (3 ∷ 0 ∷ []) $ fjoin ! $ move ! (1 ∷ 0 ∷ []) $ join ! $ nothing ! $ move ! (1 ∷ 0 ∷ []) $ join ! $
-        calls-from ! fm _ ((build-called 𝓤 H A mem run) .args (((κ₀, (α ∷ [], tt)), (q₀, (fullShare, tt)), tt, (ref b-list o-list γ-list list, (ref b-index o-index δ index, tt)), (sliceVal (b-list, o-list) (length list) ∷ [], (sliceVal (b-index, o-index) (length index) ∷ [], tt))), tt)) ((build-called 𝓤 H A mem run) .post (((κ₀, (α ∷ [], tt)), (q₀, (fullShare, tt)), tt, (ref b-list o-list γ-list list, (ref b-index o-index δ index, tt)), (sliceVal (b-list, o-list) (length list) ∷ [], (sliceVal (b-index, o-index) (length index) ∷ [], tt))), tt)) (build-known (((κ₀, (α ∷ [], tt)), (q₀, (fullShare, tt)), tt, (ref b-list o-list γ-list list, (ref b-index o-index δ index, tt)), (sliceVal (b-list, o-list) (length list) ∷ [], (sliceVal (b-index, o-index) (length index) ∷ [], tt))), tt)) (and-then ! (load ! (from ! (stop !)) (look ! 11 refl)) (and-then ! (load ! (from ! (stop !)) (look ! 3 refl)) (no-more !))) (λ u.
-        answers ! tt build.ended (build.clauses 𝓤 H A mem run) (((κ₀, (α ∷ [], tt)), (q₀, (fullShare, tt)), tt, (ref b-list o-list γ-list list, (ref b-index o-index δ index, tt)), (sliceVal (b-list, o-list) (length list) ∷ [], (sliceVal (b-index, o-index) (length index) ∷ [], tt))), tt) (λ listed ws.
-        fsplit ! $ drop ! $ fsplit ! $ fsplit ! $ move ! (1 ∷ []) $ feqL ! (λ len. move ! (1 ∷ []) $ drop ! $ move ! (1 ∷ []) $ use1 W (raw (fact 𝓤 (listed ≡ indexedAs list (length index))) ⊛ raw (fact 𝓤 (plain (ws .1 .0) ≡ indexAfter list (length index)))) (id⊢ 𝓤 _) $ split ! $ heard ! (listed ≡ indexedAs list (length index)) (λ e-listed. heard ! (plain (ws .1 .0) ≡ indexAfter list (length index)) (λ e-index.
-        move ! (1 ∷ []) $ use1 W (‵ (flft κ₀ q₀) ⊛ ‵ (flft (α ∷ []) fullShare) ⊛ ‵ ftrue) (id⊢ 𝓤 _) $ split ! $ move ! (1 ∷ []) $ split ! $ move ! (1 ∷ []) $ drop ! $ move ! (0 ∷ 4 ∷ 2 ∷ []) $ comes-back ! tt T.the-row b-index o-index (length index) index (ws .1 .0) len refl room-index $ move ! (3 ∷ []) $ lands-as ! marking listed (λ is. land ! (from ! (stop !)) (init ! 8 refl (marking .lawful 𝓤 H A W .typed listed _ is .0)) $
-        nothing ! $ nothing ! $ owned ! Li.the-row (Is Li.the-row) (marking .makes 𝓤 H A W) listed _ is $ fjoin ! $ move ! (1 ∷ 0 ∷ []) $ join ! $ nothing ! $ move ! (1 ∷ 0 ∷ []) $ join ! $
-        calls-from ! fm _ ((of-listed-called 𝓤 H A mem run) .args ((tt, tt, tt, (listed, tt), (marking .val listed ∷ [], tt)), tt)) ((of-listed-called 𝓤 H A mem run) .post ((tt, tt, tt, (listed, tt), (marking .val listed ∷ [], tt)), tt)) (of-listed-known ((tt, tt, tt, (listed, tt), (marking .val listed ∷ [], tt)), tt)) (and-then ! (load ! (from ! (stop !)) (look ! 9 refl)) (no-more !)) (λ u.
-        answers ! tt of-listed.ended (of-listed.clauses 𝓤 H A mem run) ((tt, tt, tt, (listed, tt), (marking .val listed ∷ [], tt)), tt) (λ mark ws₁.
-        fsplit ! $ drop ! $ drop ! $ heard ! (mark ≡ ofListed listed) (λ e-mark.
-        use1 W (‵ ftrue) (id⊢ 𝓤 _) $ drop ! $ lands-as ! mark-data mark (λ is₁. land ! (from ! (stop !)) (init ! 14 refl (mark-data .lawful 𝓤 H A W .typed mark _ is₁ .0)) $
-        returns ! (look ! 14 refl) $ forget ! 14 refl $ forget ! 12 refl $ forget ! 10 refl $ forget ! 8 refl $ forget ! 6 refl $ forget ! 4 refl $
-        move ! (14 ∷ 15 ∷ []) $ free1 ! $ move ! (12 ∷ 13 ∷ []) $ free1 ! $ move ! (10 ∷ 11 ∷ []) $ free1 ! $ move ! (8 ∷ 9 ∷ []) $ free1 ! $ move ! (6 ∷ 7 ∷ []) $ free1 ! $ move ! (4 ∷ 5 ∷ []) $ free1 ! $ free0 ! $
-        keep ! (2 ∷ 1 ∷ 3 ∷ 0 ∷ []) $ suffices ! _ (ends-at 𝓤 H A f.ended stayed (f.clauses 𝓤 H A mem run) W bound (mark-data .val mark) mark (tt, (ws .1 .0, tt)) (tt, (len, tt))) $ says-both ! (listed-answer listed _ mark e-listed e-mark) e-index $
-        nothing ! $ move ! (2 ∷ 0 ∷ []) $ join ! $ move ! (1 ∷ 0 ∷ []) $ join ! $ frame ! $ nothing ! $ move ! (2 ∷ 0 ∷ []) $ fjoin ! $ move ! (1 ∷ 0 ∷ []) $ fjoin ! $ frame ! $ owned ! Ma.the-row (Is Ma.the-row) (mark-data .makes 𝓤 H A W) mark _ is₁ $ done !)))))))))))))))))
+      alloc1 ! (λ l₀. alloc1 ! (λ l₁. alloc1 ! (λ l₂. alloc1 ! (λ l₃. alloc1 ! (λ l₄. alloc1 ! (λ l₅. alloc0 ! $ params1 ! $
+      pass1 ! (init ! 8 refl (tt, (tt, (record { fits = room-list .0 }, tt)))) $ pass1 ! (init ! 6 refl (tt, (tt, (record { fits = room-index .0 }, tt)))) $ pass0 ! $
+      move ! (12 ∷ []) $ split ! $ move ! (1 ∷ []) $ split ! $ move ! (1 ∷ []) $ drop ! $ move ! (14 ∷ []) $ fsplit ! $ move ! (1 ∷ []) $ fsplit ! $ move ! (1 ∷ []) $ drop ! $
+      assigns ! (addr ! (from ! (fld ! refl (hop ! (look-in ! 10 (sub ! 0 refl (whole !))) (stop !))))) (from ! (stop !)) (init ! 6 refl (tt, tt)) $
+      assigns ! (agg ! (and-then ! (load ! (from ! (stop !)) (look ! 6 refl)) (and-then ! (load ! (from ! (fld ! refl (stop !))) (look-in ! 10 (sub ! 1 refl (whole !)))) (no-more !)))) (from ! (stop !)) (init ! 4 refl (tt, (tt, (record { fits = room-index .0 }, tt)))) $
+      move ! (1 ∷ []) $ shr-twice ! u8 b-list o-list list $ move ! (2 ∷ 3 ∷ []) $ lends-on ! tt T.the-row b-index o-index (length index) index refl room-index (λ α δ.
+      nothing ! $ move ! (2 ∷ 0 ∷ []) $ join ! $ move ! (5 ∷ 0 ∷ []) $ join ! $ nothing ! $ move ! (2 ∷ 0 ∷ []) $ fjoin ! $ move ! (3 ∷ 0 ∷ []) $ fjoin ! $ move ! (1 ∷ 0 ∷ []) $ join ! $ nothing ! $ move ! (1 ∷ 0 ∷ []) $ join ! $
+      calls-from ! fm _ ((build-called 𝓤 H A mem run) .args (((κ₀, (α ∷ [], tt)), (q₀, (fullShare, tt)), tt, (ref b-list o-list γ-list list, (ref b-index o-index δ index, tt)), (sliceVal (b-list, o-list) (length list) ∷ [], (sliceVal (b-index, o-index) (length index) ∷ [], tt))), tt)) ((build-called 𝓤 H A mem run) .post (((κ₀, (α ∷ [], tt)), (q₀, (fullShare, tt)), tt, (ref b-list o-list γ-list list, (ref b-index o-index δ index, tt)), (sliceVal (b-list, o-list) (length list) ∷ [], (sliceVal (b-index, o-index) (length index) ∷ [], tt))), tt)) (build-known (((κ₀, (α ∷ [], tt)), (q₀, (fullShare, tt)), tt, (ref b-list o-list γ-list list, (ref b-index o-index δ index, tt)), (sliceVal (b-list, o-list) (length list) ∷ [], (sliceVal (b-index, o-index) (length index) ∷ [], tt))), tt)) (and-then ! (load ! (from ! (stop !)) (look ! 11 refl)) (and-then ! (load ! (from ! (stop !)) (look ! 3 refl)) (no-more !))) (λ u.
+      answers ! tt build.ended (build.clauses 𝓤 H A mem run) (((κ₀, (α ∷ [], tt)), (q₀, (fullShare, tt)), tt, (ref b-list o-list γ-list list, (ref b-index o-index δ index, tt)), (sliceVal (b-list, o-list) (length list) ∷ [], (sliceVal (b-index, o-index) (length index) ∷ [], tt))), tt) (λ listed ws.
+      fsplit ! $ drop ! $ fsplit ! $ fsplit ! $ move ! (1 ∷ []) $ feqL ! (λ len. move ! (1 ∷ []) $ drop ! $ move ! (1 ∷ []) $ use1 W (raw (fact 𝓤 (listed ≡ indexedAs list (length index))) ⊛ raw (fact 𝓤 (plain (ws .1 .0) ≡ indexAfter list (length index)))) (id⊢ 𝓤 _) $ split ! $ heard ! (listed ≡ indexedAs list (length index)) (λ e-listed. heard ! (plain (ws .1 .0) ≡ indexAfter list (length index)) (λ e-index.
+      move ! (1 ∷ []) $ use1 W (‵ (flft κ₀ q₀) ⊛ ‵ (flft (α ∷ []) fullShare) ⊛ ‵ ftrue) (id⊢ 𝓤 _) $ split ! $ move ! (1 ∷ []) $ split ! $ move ! (1 ∷ []) $ drop ! $ move ! (0 ∷ 4 ∷ 2 ∷ []) $ comes-back ! tt T.the-row b-index o-index (length index) index (ws .1 .0) len refl room-index $ move ! (3 ∷ []) $ lands-as ! marking listed (λ is. land ! (from ! (stop !)) (init ! 8 refl (marking .lawful 𝓤 H A W .typed listed _ is .0)) $
+      nothing ! $ nothing ! $ owned ! Li.the-row (Is Li.the-row) (marking .makes 𝓤 H A W) listed _ is $ fjoin ! $ move ! (1 ∷ 0 ∷ []) $ join ! $ nothing ! $ move ! (1 ∷ 0 ∷ []) $ join ! $
+      calls-from ! fm _ ((of-listed-called 𝓤 H A mem run) .args ((tt, tt, tt, (listed, tt), (marking .val listed ∷ [], tt)), tt)) ((of-listed-called 𝓤 H A mem run) .post ((tt, tt, tt, (listed, tt), (marking .val listed ∷ [], tt)), tt)) (of-listed-known ((tt, tt, tt, (listed, tt), (marking .val listed ∷ [], tt)), tt)) (and-then ! (load ! (from ! (stop !)) (look ! 9 refl)) (no-more !)) (λ u.
+      answers ! tt of-listed.ended (of-listed.clauses 𝓤 H A mem run) ((tt, tt, tt, (listed, tt), (marking .val listed ∷ [], tt)), tt) (λ mark ws₁.
+      fsplit ! $ drop ! $ drop ! $ heard ! (mark ≡ ofListed listed) (λ e-mark.
+      use1 W (‵ ftrue) (id⊢ 𝓤 _) $ drop ! $ lands-as ! mark-data mark (λ is₁. land ! (from ! (stop !)) (init ! 14 refl (mark-data .lawful 𝓤 H A W .typed mark _ is₁ .0)) $
+      returns ! (look ! 14 refl) $ forget ! 14 refl $ forget ! 12 refl $ forget ! 10 refl $ forget ! 8 refl $ forget ! 6 refl $ forget ! 4 refl $
+      move ! (14 ∷ 15 ∷ []) $ free1 ! $ move ! (12 ∷ 13 ∷ []) $ free1 ! $ move ! (10 ∷ 11 ∷ []) $ free1 ! $ move ! (8 ∷ 9 ∷ []) $ free1 ! $ move ! (6 ∷ 7 ∷ []) $ free1 ! $ move ! (4 ∷ 5 ∷ []) $ free1 ! $ free0 ! $
+      keep ! (2 ∷ 1 ∷ 3 ∷ 0 ∷ []) $ suffices ! _ (ends-at 𝓤 H A f.ended stayed (f.clauses 𝓤 H A mem run) W bound (mark-data .val mark) mark (tt, (ws .1 .0, tt)) (tt, (len, tt))) $ says-both ! (listed-answer listed _ mark e-listed e-mark) e-index $
+      nothing ! $ move ! (2 ∷ 0 ∷ []) $ join ! $ move ! (1 ∷ 0 ∷ []) $ join ! $ frame ! $ nothing ! $ move ! (2 ∷ 0 ∷ []) $ fjoin ! $ move ! (1 ∷ 0 ∷ []) $ fjoin ! $ frame ! $ owned ! Ma.the-row (Is Ma.the-row) (mark-data .makes 𝓤 H A W) mark _ is₁ $ done !)))))))))))))))))
 
 module _ {M : Type 1} (𝓤 : URA M) (H : Heap 𝓤) (A : Atoms 𝓤) (W : Given 𝓤 H A) (mem : Memory → SProp 𝓤) (run : Routine → Fun 𝓤) where
   walks : (𝓣 : Tables 𝓤 H) → Triple 𝓤 (𝓣 .C #indexing·build) (build-called 𝓤 H A mem run) → Triple 𝓤 (𝓣 .C #ox-contacts·of-listed) (of-listed-called 𝓤 H A mem run) → Walks 𝓤 H A f.ended stayed (WpFn 𝓤 H (𝓣 .C) (𝓣 .Λ) code.function) (f.clauses 𝓤 H A mem run)

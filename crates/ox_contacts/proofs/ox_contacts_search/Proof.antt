@@ -86,29 +86,29 @@ module _ {M : Type 1} (𝓤 : URA M) (H : Heap 𝓤) (A : Atoms 𝓤) (W : Given
       → ent 𝓤 (onEntry 𝓤 H A f.signature (κ₀, (κ₁, (κ₂, (κ₃, tt)))) (q₀, (q₁, (q₂, (q₃, tt)))) (ref b-list o-list γ-list list, (ref b-other o-other γ-other other, (window, (ref b-index o-index γ-index index, (ref b-found o-found γ-found found, tt))))) at) (WpFn 𝓤 H (𝓣 .C) (𝓣 .Λ) code.function (sliceVal (b-list, o-list) (length list) ∷ sliceVal (b-other, o-other) (length other) ∷ (signed w64) .val window ∷ sliceVal (b-index, o-index) (length index) ∷ sliceVal (b-found, o-found) (length found) ∷ []) Post)
   walk 𝓣 fm look-up-known of-listed-known =
       qed W ((‵ (flft κ₀ q₀) ⊛ ‵ (flft κ₁ q₁) ⊛ ‵ (flft κ₂ q₂) ⊛ ‵ (flft κ₃ q₃) ⊛ ‵ ftrue) ∷ ‵ (owns (ShrSlice (named 0) κ₀ u8 ∷ ShrSlice (named 1) κ₁ u8 ∷ i64 ∷ MutSlice (named 2) κ₂ T.the-row ∷ MutSlice (named 3) κ₃ u64 ∷ []) (ref b-list o-list γ-list list, (ref b-other o-other γ-other other, (window, (ref b-index o-index γ-index index, (ref b-found o-found γ-found found, tt))))) at) ∷ []) ∵ enter ! (𝓣 .C) (𝓣 .Λ) code.function (sliceVal (b-list, o-list) (length list) ∷ sliceVal (b-other, o-other) (length other) ∷ (signed w64) .val window ∷ sliceVal (b-index, o-index) (length index) ∷ sliceVal (b-found, o-found) (length found) ∷ []) _ $
-        alloc1 ! (λ l₀. alloc1 ! (λ l₁. alloc1 ! (λ l₂. alloc1 ! (λ l₃. alloc1 ! (λ l₄. alloc1 ! (λ l₅. alloc1 ! (λ l₆. alloc1 ! (λ l₇. alloc1 ! (λ l₈. alloc1 ! (λ l₉. alloc1 ! (λ l₁₀. alloc0 ! $ params1 ! $
-        pass1 ! (init ! 18 refl (tt, (tt, (record { fits = room-list .0 }, tt)))) $ pass1 ! (init ! 16 refl (tt, (tt, (record { fits = room-other .0 }, tt)))) $ pass1 ! (init ! 14 refl ((signed w64) .lawful 𝓤 H A W .typed window _ is-window .0)) $ pass1 ! (init ! 12 refl (tt, (tt, (record { fits = room-index .0 }, tt)))) $ pass1 ! (init ! 10 refl (tt, (tt, (record { fits = room-found .0 }, tt)))) $ pass0 ! $
-        move ! (22 ∷ []) $ split ! $ move ! (1 ∷ []) $ split ! $ move ! (1 ∷ []) $ split ! $ move ! (1 ∷ []) $ split ! $ move ! (1 ∷ []) $ drop ! $ move ! (26 ∷ []) $ fsplit ! $ move ! (1 ∷ []) $ fsplit ! $ move ! (1 ∷ []) $ fsplit ! $ drop ! $ fsplit ! $ move ! (1 ∷ []) $ fsplit ! $ move ! (1 ∷ []) $ drop ! $
-        assigns ! (addr ! (from ! (fld ! refl (hop ! (look-in ! 20 (sub ! 0 refl (whole !))) (stop !))))) (from ! (stop !)) (init ! 14 refl (tt, tt)) $
-        assigns ! (agg ! (and-then ! (load ! (from ! (stop !)) (look ! 14 refl)) (and-then ! (load ! (from ! (fld ! refl (stop !))) (look-in ! 20 (sub ! 1 refl (whole !)))) (no-more !)))) (from ! (stop !)) (init ! 12 refl (tt, (tt, (record { fits = room-index .0 }, tt)))) $
-        assigns ! (addr ! (from ! (fld ! refl (hop ! (look-in ! 18 (sub ! 0 refl (whole !))) (stop !))))) (from ! (stop !)) (init ! 10 refl (tt, tt)) $
-        assigns ! (agg ! (and-then ! (load ! (from ! (stop !)) (look ! 10 refl)) (and-then ! (load ! (from ! (fld ! refl (stop !))) (look-in ! 18 (sub ! 1 refl (whole !)))) (no-more !)))) (from ! (stop !)) (init ! 8 refl (tt, (tt, (record { fits = room-found .0 }, tt)))) $
-        move ! (3 ∷ []) $ shr-twice ! u8 b-list o-list list $ move ! (4 ∷ []) $ shr-twice ! u8 b-other o-other other $ move ! (5 ∷ 7 ∷ []) $ lends-on ! tt T.the-row b-index o-index (length index) index refl room-index (λ α δ.
-        move ! (7 ∷ 8 ∷ []) $ lends-on ! tt u64 b-found o-found (length found) found refl room-found (λ α₁ δ₁.
-        nothing ! $ move ! (2 ∷ 0 ∷ []) $ join ! $ move ! (4 ∷ 0 ∷ []) $ join ! $ move ! (9 ∷ 0 ∷ []) $ join ! $ move ! (9 ∷ 0 ∷ []) $ join ! $ nothing ! $ move ! (2 ∷ 0 ∷ []) $ fjoin ! $ move ! (3 ∷ 0 ∷ []) $ fjoin ! $ owned ! i64 (Is i64) ((signed w64) .makes 𝓤 H A W) window _ is-window $ fjoin ! $ move ! (4 ∷ 0 ∷ []) $ fjoin ! $ move ! (5 ∷ 0 ∷ []) $ fjoin ! $ move ! (1 ∷ 0 ∷ []) $ join ! $ nothing ! $ move ! (1 ∷ 0 ∷ []) $ join ! $
-        calls-from ! fm _ ((look-up-called 𝓤 H A mem run) .args (((κ₀, (κ₁, (α ∷ [], (α₁ ∷ [], tt)))), (q₀, (q₁, (fullShare, (fullShare, tt)))), tt, (ref b-list o-list γ-list list, (ref b-other o-other γ-other other, (window, (ref b-index o-index δ index, (ref b-found o-found δ₁ found, tt))))), (sliceVal (b-list, o-list) (length list) ∷ [], (sliceVal (b-other, o-other) (length other) ∷ [], ((signed w64) .val window ∷ [], (sliceVal (b-index, o-index) (length index) ∷ [], (sliceVal (b-found, o-found) (length found) ∷ [], tt)))))), tt)) ((look-up-called 𝓤 H A mem run) .post (((κ₀, (κ₁, (α ∷ [], (α₁ ∷ [], tt)))), (q₀, (q₁, (fullShare, (fullShare, tt)))), tt, (ref b-list o-list γ-list list, (ref b-other o-other γ-other other, (window, (ref b-index o-index δ index, (ref b-found o-found δ₁ found, tt))))), (sliceVal (b-list, o-list) (length list) ∷ [], (sliceVal (b-other, o-other) (length other) ∷ [], ((signed w64) .val window ∷ [], (sliceVal (b-index, o-index) (length index) ∷ [], (sliceVal (b-found, o-found) (length found) ∷ [], tt)))))), tt)) (look-up-known (((κ₀, (κ₁, (α ∷ [], (α₁ ∷ [], tt)))), (q₀, (q₁, (fullShare, (fullShare, tt)))), tt, (ref b-list o-list γ-list list, (ref b-other o-other γ-other other, (window, (ref b-index o-index δ index, (ref b-found o-found δ₁ found, tt))))), (sliceVal (b-list, o-list) (length list) ∷ [], (sliceVal (b-other, o-other) (length other) ∷ [], ((signed w64) .val window ∷ [], (sliceVal (b-index, o-index) (length index) ∷ [], (sliceVal (b-found, o-found) (length found) ∷ [], tt)))))), tt)) (and-then ! (load ! (from ! (stop !)) (look ! 23 refl)) (and-then ! (load ! (from ! (stop !)) (look ! 21 refl)) (and-then ! (load ! (from ! (stop !)) (look ! 19 refl)) (and-then ! (load ! (from ! (stop !)) (look ! 9 refl)) (and-then ! (load ! (from ! (stop !)) (look ! 5 refl)) (no-more !)))))) (λ u.
-        answers ! tt look-up.ended (look-up.clauses 𝓤 H A mem run) (((κ₀, (κ₁, (α ∷ [], (α₁ ∷ [], tt)))), (q₀, (q₁, (fullShare, (fullShare, tt)))), tt, (ref b-list o-list γ-list list, (ref b-other o-other γ-other other, (window, (ref b-index o-index δ index, (ref b-found o-found δ₁ found, tt))))), (sliceVal (b-list, o-list) (length list) ∷ [], (sliceVal (b-other, o-other) (length other) ∷ [], ((signed w64) .val window ∷ [], (sliceVal (b-index, o-index) (length index) ∷ [], (sliceVal (b-found, o-found) (length found) ∷ [], tt)))))), tt) (λ listed ws.
-        fsplit ! $ drop ! $ fsplit ! $ drop ! $ fsplit ! $ drop ! $ fsplit ! $ fsplit ! $ move ! (1 ∷ []) $ feqL ! (λ len. move ! (1 ∷ []) $ fsplit ! $ fsplit ! $ move ! (1 ∷ []) $ feqL ! (λ len₁. move ! (1 ∷ []) $ drop ! $ move ! (2 ∷ []) $ use1 W (raw (fact 𝓤 (listed ≡ searchedAs list other (length index) (length found))) ⊛ raw (fact 𝓤 (plain (ws .1 .1 .1 .0) ≡ indexAfter list (length index))) ⊛ raw (fact 𝓤 (ws .1 .1 .1 .1 .0 ≡ foundAfter list (limitOf window) other (length index) (length found)))) (id⊢ 𝓤 _) $ split ! $ heard ! (listed ≡ searchedAs list other (length index) (length found)) (λ e-listed. split ! $ heard ! (plain (ws .1 .1 .1 .0) ≡ indexAfter list (length index)) (λ e-index. heard ! (ws .1 .1 .1 .1 .0 ≡ foundAfter list (limitOf window) other (length index) (length found)) (λ e-found.
-        move ! (2 ∷ []) $ use1 W (‵ (flft κ₀ q₀) ⊛ ‵ (flft κ₁ q₁) ⊛ ‵ (flft (α ∷ []) fullShare) ⊛ ‵ (flft (α₁ ∷ []) fullShare) ⊛ ‵ ftrue) (id⊢ 𝓤 _) $ split ! $ move ! (1 ∷ []) $ split ! $ move ! (1 ∷ []) $ split ! $ move ! (1 ∷ []) $ split ! $ move ! (1 ∷ []) $ drop ! $ move ! (1 ∷ 8 ∷ 5 ∷ []) $ comes-back ! tt T.the-row b-index o-index (length index) index (ws .1 .1 .1 .0) len refl room-index $ move ! (2 ∷ 7 ∷ 5 ∷ []) $ comes-back ! tt u64 b-found o-found (length found) found (ws .1 .1 .1 .1 .0) len₁ refl room-found $ move ! (6 ∷ []) $ lands-as ! marking listed (λ is. land ! (from ! (stop !)) (init ! 16 refl (marking .lawful 𝓤 H A W .typed listed _ is .0)) $
-        nothing ! $ nothing ! $ owned ! Li.the-row (Is Li.the-row) (marking .makes 𝓤 H A W) listed _ is $ fjoin ! $ move ! (1 ∷ 0 ∷ []) $ join ! $ nothing ! $ move ! (1 ∷ 0 ∷ []) $ join ! $
-        calls-from ! fm _ ((of-listed-called 𝓤 H A mem run) .args ((tt, tt, tt, (listed, tt), (marking .val listed ∷ [], tt)), tt)) ((of-listed-called 𝓤 H A mem run) .post ((tt, tt, tt, (listed, tt), (marking .val listed ∷ [], tt)), tt)) (of-listed-known ((tt, tt, tt, (listed, tt), (marking .val listed ∷ [], tt)), tt)) (and-then ! (load ! (from ! (stop !)) (look ! 17 refl)) (no-more !)) (λ u.
-        answers ! tt of-listed.ended (of-listed.clauses 𝓤 H A mem run) ((tt, tt, tt, (listed, tt), (marking .val listed ∷ [], tt)), tt) (λ mark ws₁.
-        fsplit ! $ drop ! $ drop ! $ heard ! (mark ≡ ofListed listed) (λ e-mark.
-        use1 W (‵ ftrue) (id⊢ 𝓤 _) $ drop ! $ lands-as ! mark-data mark (λ is₁. land ! (from ! (stop !)) (init ! 28 refl (mark-data .lawful 𝓤 H A W .typed mark _ is₁ .0)) $
-        returns ! (look ! 28 refl) $ forget ! 28 refl $ forget ! 26 refl $ forget ! 24 refl $ forget ! 22 refl $ forget ! 20 refl $ forget ! 18 refl $ forget ! 16 refl $ forget ! 14 refl $ forget ! 12 refl $ forget ! 10 refl $ forget ! 8 refl $
-        move ! (28 ∷ 29 ∷ []) $ free1 ! $ move ! (26 ∷ 27 ∷ []) $ free1 ! $ move ! (24 ∷ 25 ∷ []) $ free1 ! $ move ! (22 ∷ 23 ∷ []) $ free1 ! $ move ! (20 ∷ 21 ∷ []) $ free1 ! $ move ! (18 ∷ 19 ∷ []) $ free1 ! $ move ! (16 ∷ 17 ∷ []) $ free1 ! $ move ! (14 ∷ 15 ∷ []) $ free1 ! $ move ! (12 ∷ 13 ∷ []) $ free1 ! $ move ! (10 ∷ 11 ∷ []) $ free1 ! $ move ! (8 ∷ 9 ∷ []) $ free1 ! $ free0 ! $
-        keep ! (5 ∷ 4 ∷ 3 ∷ 1 ∷ 7 ∷ 6 ∷ 2 ∷ 0 ∷ []) $ suffices ! _ (ends-at 𝓤 H A f.ended stayed (f.clauses 𝓤 H A mem run) W bound (mark-data .val mark) mark (tt, (tt, (tt, (ws .1 .1 .1 .0, (ws .1 .1 .1 .1 .0, tt))))) (tt, (tt, (tt, (len, (len₁, tt)))))) $ says-three ! (listed-answer listed _ mark e-listed e-mark) e-index e-found $
-        nothing ! $ move ! (4 ∷ 0 ∷ []) $ join ! $ move ! (3 ∷ 0 ∷ []) $ join ! $ move ! (2 ∷ 0 ∷ []) $ join ! $ move ! (1 ∷ 0 ∷ []) $ join ! $ frame ! $ nothing ! $ move ! (4 ∷ 0 ∷ []) $ fjoin ! $ move ! (3 ∷ 0 ∷ []) $ fjoin ! $ owned ! i64 (Is i64) ((signed w64) .makes 𝓤 H A W) window _ is-window $ fjoin ! $ move ! (2 ∷ 0 ∷ []) $ fjoin ! $ move ! (1 ∷ 0 ∷ []) $ fjoin ! $ frame ! $ owned ! Ma.the-row (Is Ma.the-row) (mark-data .makes 𝓤 H A W) mark _ is₁ $ done !)))))))))))))))))))))))))
+      alloc1 ! (λ l₀. alloc1 ! (λ l₁. alloc1 ! (λ l₂. alloc1 ! (λ l₃. alloc1 ! (λ l₄. alloc1 ! (λ l₅. alloc1 ! (λ l₆. alloc1 ! (λ l₇. alloc1 ! (λ l₈. alloc1 ! (λ l₉. alloc1 ! (λ l₁₀. alloc0 ! $ params1 ! $
+      pass1 ! (init ! 18 refl (tt, (tt, (record { fits = room-list .0 }, tt)))) $ pass1 ! (init ! 16 refl (tt, (tt, (record { fits = room-other .0 }, tt)))) $ pass1 ! (init ! 14 refl ((signed w64) .lawful 𝓤 H A W .typed window _ is-window .0)) $ pass1 ! (init ! 12 refl (tt, (tt, (record { fits = room-index .0 }, tt)))) $ pass1 ! (init ! 10 refl (tt, (tt, (record { fits = room-found .0 }, tt)))) $ pass0 ! $
+      move ! (22 ∷ []) $ split ! $ move ! (1 ∷ []) $ split ! $ move ! (1 ∷ []) $ split ! $ move ! (1 ∷ []) $ split ! $ move ! (1 ∷ []) $ drop ! $ move ! (26 ∷ []) $ fsplit ! $ move ! (1 ∷ []) $ fsplit ! $ move ! (1 ∷ []) $ fsplit ! $ drop ! $ fsplit ! $ move ! (1 ∷ []) $ fsplit ! $ move ! (1 ∷ []) $ drop ! $
+      assigns ! (addr ! (from ! (fld ! refl (hop ! (look-in ! 20 (sub ! 0 refl (whole !))) (stop !))))) (from ! (stop !)) (init ! 14 refl (tt, tt)) $
+      assigns ! (agg ! (and-then ! (load ! (from ! (stop !)) (look ! 14 refl)) (and-then ! (load ! (from ! (fld ! refl (stop !))) (look-in ! 20 (sub ! 1 refl (whole !)))) (no-more !)))) (from ! (stop !)) (init ! 12 refl (tt, (tt, (record { fits = room-index .0 }, tt)))) $
+      assigns ! (addr ! (from ! (fld ! refl (hop ! (look-in ! 18 (sub ! 0 refl (whole !))) (stop !))))) (from ! (stop !)) (init ! 10 refl (tt, tt)) $
+      assigns ! (agg ! (and-then ! (load ! (from ! (stop !)) (look ! 10 refl)) (and-then ! (load ! (from ! (fld ! refl (stop !))) (look-in ! 18 (sub ! 1 refl (whole !)))) (no-more !)))) (from ! (stop !)) (init ! 8 refl (tt, (tt, (record { fits = room-found .0 }, tt)))) $
+      move ! (3 ∷ []) $ shr-twice ! u8 b-list o-list list $ move ! (4 ∷ []) $ shr-twice ! u8 b-other o-other other $ move ! (5 ∷ 7 ∷ []) $ lends-on ! tt T.the-row b-index o-index (length index) index refl room-index (λ α δ.
+      move ! (7 ∷ 8 ∷ []) $ lends-on ! tt u64 b-found o-found (length found) found refl room-found (λ α₁ δ₁.
+      nothing ! $ move ! (2 ∷ 0 ∷ []) $ join ! $ move ! (4 ∷ 0 ∷ []) $ join ! $ move ! (9 ∷ 0 ∷ []) $ join ! $ move ! (9 ∷ 0 ∷ []) $ join ! $ nothing ! $ move ! (2 ∷ 0 ∷ []) $ fjoin ! $ move ! (3 ∷ 0 ∷ []) $ fjoin ! $ owned ! i64 (Is i64) ((signed w64) .makes 𝓤 H A W) window _ is-window $ fjoin ! $ move ! (4 ∷ 0 ∷ []) $ fjoin ! $ move ! (5 ∷ 0 ∷ []) $ fjoin ! $ move ! (1 ∷ 0 ∷ []) $ join ! $ nothing ! $ move ! (1 ∷ 0 ∷ []) $ join ! $
+      calls-from ! fm _ ((look-up-called 𝓤 H A mem run) .args (((κ₀, (κ₁, (α ∷ [], (α₁ ∷ [], tt)))), (q₀, (q₁, (fullShare, (fullShare, tt)))), tt, (ref b-list o-list γ-list list, (ref b-other o-other γ-other other, (window, (ref b-index o-index δ index, (ref b-found o-found δ₁ found, tt))))), (sliceVal (b-list, o-list) (length list) ∷ [], (sliceVal (b-other, o-other) (length other) ∷ [], ((signed w64) .val window ∷ [], (sliceVal (b-index, o-index) (length index) ∷ [], (sliceVal (b-found, o-found) (length found) ∷ [], tt)))))), tt)) ((look-up-called 𝓤 H A mem run) .post (((κ₀, (κ₁, (α ∷ [], (α₁ ∷ [], tt)))), (q₀, (q₁, (fullShare, (fullShare, tt)))), tt, (ref b-list o-list γ-list list, (ref b-other o-other γ-other other, (window, (ref b-index o-index δ index, (ref b-found o-found δ₁ found, tt))))), (sliceVal (b-list, o-list) (length list) ∷ [], (sliceVal (b-other, o-other) (length other) ∷ [], ((signed w64) .val window ∷ [], (sliceVal (b-index, o-index) (length index) ∷ [], (sliceVal (b-found, o-found) (length found) ∷ [], tt)))))), tt)) (look-up-known (((κ₀, (κ₁, (α ∷ [], (α₁ ∷ [], tt)))), (q₀, (q₁, (fullShare, (fullShare, tt)))), tt, (ref b-list o-list γ-list list, (ref b-other o-other γ-other other, (window, (ref b-index o-index δ index, (ref b-found o-found δ₁ found, tt))))), (sliceVal (b-list, o-list) (length list) ∷ [], (sliceVal (b-other, o-other) (length other) ∷ [], ((signed w64) .val window ∷ [], (sliceVal (b-index, o-index) (length index) ∷ [], (sliceVal (b-found, o-found) (length found) ∷ [], tt)))))), tt)) (and-then ! (load ! (from ! (stop !)) (look ! 23 refl)) (and-then ! (load ! (from ! (stop !)) (look ! 21 refl)) (and-then ! (load ! (from ! (stop !)) (look ! 19 refl)) (and-then ! (load ! (from ! (stop !)) (look ! 9 refl)) (and-then ! (load ! (from ! (stop !)) (look ! 5 refl)) (no-more !)))))) (λ u.
+      answers ! tt look-up.ended (look-up.clauses 𝓤 H A mem run) (((κ₀, (κ₁, (α ∷ [], (α₁ ∷ [], tt)))), (q₀, (q₁, (fullShare, (fullShare, tt)))), tt, (ref b-list o-list γ-list list, (ref b-other o-other γ-other other, (window, (ref b-index o-index δ index, (ref b-found o-found δ₁ found, tt))))), (sliceVal (b-list, o-list) (length list) ∷ [], (sliceVal (b-other, o-other) (length other) ∷ [], ((signed w64) .val window ∷ [], (sliceVal (b-index, o-index) (length index) ∷ [], (sliceVal (b-found, o-found) (length found) ∷ [], tt)))))), tt) (λ listed ws.
+      fsplit ! $ drop ! $ fsplit ! $ drop ! $ fsplit ! $ drop ! $ fsplit ! $ fsplit ! $ move ! (1 ∷ []) $ feqL ! (λ len. move ! (1 ∷ []) $ fsplit ! $ fsplit ! $ move ! (1 ∷ []) $ feqL ! (λ len₁. move ! (1 ∷ []) $ drop ! $ move ! (2 ∷ []) $ use1 W (raw (fact 𝓤 (listed ≡ searchedAs list other (length index) (length found))) ⊛ raw (fact 𝓤 (plain (ws .1 .1 .1 .0) ≡ indexAfter list (length index))) ⊛ raw (fact 𝓤 (ws .1 .1 .1 .1 .0 ≡ foundAfter list (limitOf window) other (length index) (length found)))) (id⊢ 𝓤 _) $ split ! $ heard ! (listed ≡ searchedAs list other (length index) (length found)) (λ e-listed. split ! $ heard ! (plain (ws .1 .1 .1 .0) ≡ indexAfter list (length index)) (λ e-index. heard ! (ws .1 .1 .1 .1 .0 ≡ foundAfter list (limitOf window) other (length index) (length found)) (λ e-found.
+      move ! (2 ∷ []) $ use1 W (‵ (flft κ₀ q₀) ⊛ ‵ (flft κ₁ q₁) ⊛ ‵ (flft (α ∷ []) fullShare) ⊛ ‵ (flft (α₁ ∷ []) fullShare) ⊛ ‵ ftrue) (id⊢ 𝓤 _) $ split ! $ move ! (1 ∷ []) $ split ! $ move ! (1 ∷ []) $ split ! $ move ! (1 ∷ []) $ split ! $ move ! (1 ∷ []) $ drop ! $ move ! (1 ∷ 8 ∷ 5 ∷ []) $ comes-back ! tt T.the-row b-index o-index (length index) index (ws .1 .1 .1 .0) len refl room-index $ move ! (2 ∷ 7 ∷ 5 ∷ []) $ comes-back ! tt u64 b-found o-found (length found) found (ws .1 .1 .1 .1 .0) len₁ refl room-found $ move ! (6 ∷ []) $ lands-as ! marking listed (λ is. land ! (from ! (stop !)) (init ! 16 refl (marking .lawful 𝓤 H A W .typed listed _ is .0)) $
+      nothing ! $ nothing ! $ owned ! Li.the-row (Is Li.the-row) (marking .makes 𝓤 H A W) listed _ is $ fjoin ! $ move ! (1 ∷ 0 ∷ []) $ join ! $ nothing ! $ move ! (1 ∷ 0 ∷ []) $ join ! $
+      calls-from ! fm _ ((of-listed-called 𝓤 H A mem run) .args ((tt, tt, tt, (listed, tt), (marking .val listed ∷ [], tt)), tt)) ((of-listed-called 𝓤 H A mem run) .post ((tt, tt, tt, (listed, tt), (marking .val listed ∷ [], tt)), tt)) (of-listed-known ((tt, tt, tt, (listed, tt), (marking .val listed ∷ [], tt)), tt)) (and-then ! (load ! (from ! (stop !)) (look ! 17 refl)) (no-more !)) (λ u.
+      answers ! tt of-listed.ended (of-listed.clauses 𝓤 H A mem run) ((tt, tt, tt, (listed, tt), (marking .val listed ∷ [], tt)), tt) (λ mark ws₁.
+      fsplit ! $ drop ! $ drop ! $ heard ! (mark ≡ ofListed listed) (λ e-mark.
+      use1 W (‵ ftrue) (id⊢ 𝓤 _) $ drop ! $ lands-as ! mark-data mark (λ is₁. land ! (from ! (stop !)) (init ! 28 refl (mark-data .lawful 𝓤 H A W .typed mark _ is₁ .0)) $
+      returns ! (look ! 28 refl) $ forget ! 28 refl $ forget ! 26 refl $ forget ! 24 refl $ forget ! 22 refl $ forget ! 20 refl $ forget ! 18 refl $ forget ! 16 refl $ forget ! 14 refl $ forget ! 12 refl $ forget ! 10 refl $ forget ! 8 refl $
+      move ! (28 ∷ 29 ∷ []) $ free1 ! $ move ! (26 ∷ 27 ∷ []) $ free1 ! $ move ! (24 ∷ 25 ∷ []) $ free1 ! $ move ! (22 ∷ 23 ∷ []) $ free1 ! $ move ! (20 ∷ 21 ∷ []) $ free1 ! $ move ! (18 ∷ 19 ∷ []) $ free1 ! $ move ! (16 ∷ 17 ∷ []) $ free1 ! $ move ! (14 ∷ 15 ∷ []) $ free1 ! $ move ! (12 ∷ 13 ∷ []) $ free1 ! $ move ! (10 ∷ 11 ∷ []) $ free1 ! $ move ! (8 ∷ 9 ∷ []) $ free1 ! $ free0 ! $
+      keep ! (5 ∷ 4 ∷ 3 ∷ 1 ∷ 7 ∷ 6 ∷ 2 ∷ 0 ∷ []) $ suffices ! _ (ends-at 𝓤 H A f.ended stayed (f.clauses 𝓤 H A mem run) W bound (mark-data .val mark) mark (tt, (tt, (tt, (ws .1 .1 .1 .0, (ws .1 .1 .1 .1 .0, tt))))) (tt, (tt, (tt, (len, (len₁, tt)))))) $ says-three ! (listed-answer listed _ mark e-listed e-mark) e-index e-found $
+      nothing ! $ move ! (4 ∷ 0 ∷ []) $ join ! $ move ! (3 ∷ 0 ∷ []) $ join ! $ move ! (2 ∷ 0 ∷ []) $ join ! $ move ! (1 ∷ 0 ∷ []) $ join ! $ frame ! $ nothing ! $ move ! (4 ∷ 0 ∷ []) $ fjoin ! $ move ! (3 ∷ 0 ∷ []) $ fjoin ! $ owned ! i64 (Is i64) ((signed w64) .makes 𝓤 H A W) window _ is-window $ fjoin ! $ move ! (2 ∷ 0 ∷ []) $ fjoin ! $ move ! (1 ∷ 0 ∷ []) $ fjoin ! $ frame ! $ owned ! Ma.the-row (Is Ma.the-row) (mark-data .makes 𝓤 H A W) mark _ is₁ $ done !)))))))))))))))))))))))))
 
 module _ {M : Type 1} (𝓤 : URA M) (H : Heap 𝓤) (A : Atoms 𝓤) (W : Given 𝓤 H A) (mem : Memory → SProp 𝓤) (run : Routine → Fun 𝓤) where
   walks : (𝓣 : Tables 𝓤 H) → Triple 𝓤 (𝓣 .C #lookup·look-up) (look-up-called 𝓤 H A mem run) → Triple 𝓤 (𝓣 .C #ox-contacts·of-listed) (of-listed-called 𝓤 H A mem run) → Walks 𝓤 H A f.ended stayed (WpFn 𝓤 H (𝓣 .C) (𝓣 .Λ) code.function) (f.clauses 𝓤 H A mem run)

@@ -87,38 +87,38 @@ module _ {M : Type 1} (𝓤 : URA M) (H : Heap 𝓤) (A : Atoms 𝓤) (W : Given
       → ent 𝓤 (onEntry 𝓤 H A f.signature (κ₀, (κ₁, (κ₂, (κ₃, (κ₄, (κ₅, tt)))))) (q₀, (q₁, (q₂, (q₃, (q₄, (q₅, tt)))))) (ref b-text o-text γ-text text, (ref b-list o-list γ-list list, (window, (download, (ref b-table o-table γ-table table, (ref b-index o-index γ-index index, (ref b-fates o-fates γ-fates fates, (ref b-confirmations o-confirmations γ-confirmations confirmations, tt)))))))) at) (WpFn 𝓤 H (𝓣 .C) (𝓣 .Λ) code.function (sliceVal (b-text, o-text) (length text) ∷ sliceVal (b-list, o-list) (length list) ∷ (signed w64) .val window ∷ vbool download ∷ sliceVal (b-table, o-table) (length table) ∷ sliceVal (b-index, o-index) (length index) ∷ sliceVal (b-fates, o-fates) (length fates) ∷ sliceVal (b-confirmations, o-confirmations) (length confirmations) ∷ []) Post)
   walk 𝓣 fm plan-known of-planned-known =
       qed W ((‵ (flft κ₀ q₀) ⊛ ‵ (flft κ₁ q₁) ⊛ ‵ (flft κ₂ q₂) ⊛ ‵ (flft κ₃ q₃) ⊛ ‵ (flft κ₄ q₄) ⊛ ‵ (flft κ₅ q₅) ⊛ ‵ ftrue) ∷ ‵ (owns (ShrSlice (named 0) κ₀ u8 ∷ ShrSlice (named 1) κ₁ u8 ∷ i64 ∷ bool ∷ MutSlice (named 2) κ₂ u32 ∷ MutSlice (named 3) κ₃ T.the-row ∷ MutSlice (named 4) κ₄ (Array u32 28) ∷ MutSlice (named 5) κ₅ (Array u32 5) ∷ []) (ref b-text o-text γ-text text, (ref b-list o-list γ-list list, (window, (download, (ref b-table o-table γ-table table, (ref b-index o-index γ-index index, (ref b-fates o-fates γ-fates fates, (ref b-confirmations o-confirmations γ-confirmations confirmations, tt)))))))) at) ∷ []) ∵ enter ! (𝓣 .C) (𝓣 .Λ) code.function (sliceVal (b-text, o-text) (length text) ∷ sliceVal (b-list, o-list) (length list) ∷ (signed w64) .val window ∷ vbool download ∷ sliceVal (b-table, o-table) (length table) ∷ sliceVal (b-index, o-index) (length index) ∷ sliceVal (b-fates, o-fates) (length fates) ∷ sliceVal (b-confirmations, o-confirmations) (length confirmations) ∷ []) _ $
-        alloc1 ! (λ l₀. alloc1 ! (λ l₁. alloc1 ! (λ l₂. alloc1 ! (λ l₃. alloc1 ! (λ l₄. alloc1 ! (λ l₅. alloc1 ! (λ l₆. alloc1 ! (λ l₇. alloc1 ! (λ l₈. alloc1 ! (λ l₉. alloc1 ! (λ l₁₀. alloc1 ! (λ l₁₁. alloc1 ! (λ l₁₂. alloc1 ! (λ l₁₃. alloc1 ! (λ l₁₄. alloc1 ! (λ l₁₅. alloc1 ! (λ l₁₆. alloc1 ! (λ l₁₇. alloc1 ! (λ l₁₈. alloc1 ! (λ l₁₉. alloc0 ! $ params1 ! $
-        pass1 ! (init ! 36 refl (tt, (tt, (record { fits = room-text .0 }, tt)))) $ pass1 ! (init ! 34 refl (tt, (tt, (record { fits = room-list .0 }, tt)))) $ pass1 ! (init ! 32 refl ((signed w64) .lawful 𝓤 H A W .typed window _ is-window .0)) $ pass1 ! (init ! 30 refl (tt, tt)) $ pass1 ! (init ! 28 refl (tt, (tt, (record { fits = room-table .0 }, tt)))) $ pass1 ! (init ! 26 refl (tt, (tt, (record { fits = room-index .0 }, tt)))) $ pass1 ! (init ! 24 refl (tt, (tt, (record { fits = room-fates .0 }, tt)))) $ pass1 ! (init ! 22 refl (tt, (tt, (record { fits = room-confirmations .0 }, tt)))) $ pass0 ! $
-        move ! (40 ∷ []) $ split ! $ move ! (1 ∷ []) $ split ! $ move ! (1 ∷ []) $ split ! $ move ! (1 ∷ []) $ split ! $ move ! (1 ∷ []) $ split ! $ move ! (1 ∷ []) $ split ! $ move ! (1 ∷ []) $ drop ! $ move ! (46 ∷ []) $ fsplit ! $ move ! (1 ∷ []) $ fsplit ! $ move ! (1 ∷ []) $ fsplit ! $ drop ! $ fsplit ! $ drop ! $ fsplit ! $ move ! (1 ∷ []) $ fsplit ! $ move ! (1 ∷ []) $ fsplit ! $ move ! (1 ∷ []) $ fsplit ! $ move ! (1 ∷ []) $ drop ! $
-        assigns ! (addr ! (from ! (fld ! refl (hop ! (look-in ! 40 (sub ! 0 refl (whole !))) (stop !))))) (from ! (stop !)) (init ! 30 refl (tt, tt)) $
-        assigns ! (agg ! (and-then ! (load ! (from ! (stop !)) (look ! 30 refl)) (and-then ! (load ! (from ! (fld ! refl (stop !))) (look-in ! 40 (sub ! 1 refl (whole !)))) (no-more !)))) (from ! (stop !)) (init ! 28 refl (tt, (tt, (record { fits = room-table .0 }, tt)))) $
-        assigns ! (addr ! (from ! (fld ! refl (hop ! (look-in ! 38 (sub ! 0 refl (whole !))) (stop !))))) (from ! (stop !)) (init ! 26 refl (tt, tt)) $
-        assigns ! (agg ! (and-then ! (load ! (from ! (stop !)) (look ! 26 refl)) (and-then ! (load ! (from ! (fld ! refl (stop !))) (look-in ! 38 (sub ! 1 refl (whole !)))) (no-more !)))) (from ! (stop !)) (init ! 24 refl (tt, (tt, (record { fits = room-index .0 }, tt)))) $
-        assigns ! (addr ! (from ! (fld ! refl (hop ! (look-in ! 36 (sub ! 0 refl (whole !))) (stop !))))) (from ! (stop !)) (init ! 22 refl (tt, tt)) $
-        assigns ! (agg ! (and-then ! (load ! (from ! (stop !)) (look ! 22 refl)) (and-then ! (load ! (from ! (fld ! refl (stop !))) (look-in ! 36 (sub ! 1 refl (whole !)))) (no-more !)))) (from ! (stop !)) (init ! 20 refl (tt, (tt, (record { fits = room-fates .0 }, tt)))) $
-        assigns ! (addr ! (from ! (fld ! refl (hop ! (look-in ! 34 (sub ! 0 refl (whole !))) (stop !))))) (from ! (stop !)) (init ! 18 refl (tt, tt)) $
-        assigns ! (agg ! (and-then ! (load ! (from ! (stop !)) (look ! 18 refl)) (and-then ! (load ! (from ! (fld ! refl (stop !))) (look-in ! 34 (sub ! 1 refl (whole !)))) (no-more !)))) (from ! (stop !)) (init ! 16 refl (tt, (tt, (record { fits = room-confirmations .0 }, tt)))) $
-        move ! (5 ∷ []) $ shr-twice ! u8 b-text o-text text $ move ! (6 ∷ []) $ shr-twice ! u8 b-list o-list list $ move ! (7 ∷ 11 ∷ []) $ lends-on ! tt u32 b-table o-table (length table) table refl room-table (λ α δ.
-        move ! (9 ∷ 12 ∷ []) $ lends-on ! tt T.the-row b-index o-index (length index) index refl room-index (λ α₁ δ₁.
-        move ! (11 ∷ 13 ∷ []) $ lends-on ! tt (Array u32 28) b-fates o-fates (length fates) fates refl room-fates (λ α₂ δ₂.
-        move ! (13 ∷ 14 ∷ []) $ lends-on ! tt (Array u32 5) b-confirmations o-confirmations (length confirmations) confirmations refl room-confirmations (λ α₃ δ₃.
-        nothing ! $ move ! (2 ∷ 0 ∷ []) $ join ! $ move ! (4 ∷ 0 ∷ []) $ join ! $ move ! (6 ∷ 0 ∷ []) $ join ! $ move ! (8 ∷ 0 ∷ []) $ join ! $ move ! (13 ∷ 0 ∷ []) $ join ! $ move ! (13 ∷ 0 ∷ []) $ join ! $ nothing ! $ move ! (2 ∷ 0 ∷ []) $ fjoin ! $ move ! (3 ∷ 0 ∷ []) $ fjoin ! $ move ! (4 ∷ 0 ∷ []) $ fjoin ! $ move ! (5 ∷ 0 ∷ []) $ fjoin ! $ owned ! bool (Is bool) (truth .makes 𝓤 H A W) download _ refl $ fjoin ! $ owned ! i64 (Is i64) ((signed w64) .makes 𝓤 H A W) window _ is-window $ fjoin ! $ move ! (6 ∷ 0 ∷ []) $ fjoin ! $ move ! (7 ∷ 0 ∷ []) $ fjoin ! $ move ! (1 ∷ 0 ∷ []) $ join ! $ nothing ! $ move ! (1 ∷ 0 ∷ []) $ join ! $
-        calls-from ! fm _ ((plan-called 𝓤 H A mem run) .args (((κ₀, (κ₁, (α ∷ [], (α₁ ∷ [], (α₂ ∷ [], (α₃ ∷ [], tt)))))), (q₀, (q₁, (fullShare, (fullShare, (fullShare, (fullShare, tt)))))), tt, (ref b-text o-text γ-text text, (ref b-list o-list γ-list list, (window, (download, (ref b-table o-table δ table, (ref b-index o-index δ₁ index, (ref b-fates o-fates δ₂ fates, (ref b-confirmations o-confirmations δ₃ confirmations, tt)))))))), (sliceVal (b-text, o-text) (length text) ∷ [], (sliceVal (b-list, o-list) (length list) ∷ [], ((signed w64) .val window ∷ [], (vbool download ∷ [], (sliceVal (b-table, o-table) (length table) ∷ [], (sliceVal (b-index, o-index) (length index) ∷ [], (sliceVal (b-fates, o-fates) (length fates) ∷ [], (sliceVal (b-confirmations, o-confirmations) (length confirmations) ∷ [], tt))))))))), tt)) ((plan-called 𝓤 H A mem run) .post (((κ₀, (κ₁, (α ∷ [], (α₁ ∷ [], (α₂ ∷ [], (α₃ ∷ [], tt)))))), (q₀, (q₁, (fullShare, (fullShare, (fullShare, (fullShare, tt)))))), tt, (ref b-text o-text γ-text text, (ref b-list o-list γ-list list, (window, (download, (ref b-table o-table δ table, (ref b-index o-index δ₁ index, (ref b-fates o-fates δ₂ fates, (ref b-confirmations o-confirmations δ₃ confirmations, tt)))))))), (sliceVal (b-text, o-text) (length text) ∷ [], (sliceVal (b-list, o-list) (length list) ∷ [], ((signed w64) .val window ∷ [], (vbool download ∷ [], (sliceVal (b-table, o-table) (length table) ∷ [], (sliceVal (b-index, o-index) (length index) ∷ [], (sliceVal (b-fates, o-fates) (length fates) ∷ [], (sliceVal (b-confirmations, o-confirmations) (length confirmations) ∷ [], tt))))))))), tt)) (plan-known (((κ₀, (κ₁, (α ∷ [], (α₁ ∷ [], (α₂ ∷ [], (α₃ ∷ [], tt)))))), (q₀, (q₁, (fullShare, (fullShare, (fullShare, (fullShare, tt)))))), tt, (ref b-text o-text γ-text text, (ref b-list o-list γ-list list, (window, (download, (ref b-table o-table δ table, (ref b-index o-index δ₁ index, (ref b-fates o-fates δ₂ fates, (ref b-confirmations o-confirmations δ₃ confirmations, tt)))))))), (sliceVal (b-text, o-text) (length text) ∷ [], (sliceVal (b-list, o-list) (length list) ∷ [], ((signed w64) .val window ∷ [], (vbool download ∷ [], (sliceVal (b-table, o-table) (length table) ∷ [], (sliceVal (b-index, o-index) (length index) ∷ [], (sliceVal (b-fates, o-fates) (length fates) ∷ [], (sliceVal (b-confirmations, o-confirmations) (length confirmations) ∷ [], tt))))))))), tt)) (and-then ! (load ! (from ! (stop !)) (look ! 43 refl)) (and-then ! (load ! (from ! (stop !)) (look ! 41 refl)) (and-then ! (load ! (from ! (stop !)) (look ! 39 refl)) (and-then ! (load ! (from ! (stop !)) (look ! 37 refl)) (and-then ! (load ! (from ! (stop !)) (look ! 23 refl)) (and-then ! (load ! (from ! (stop !)) (look ! 19 refl)) (and-then ! (load ! (from ! (stop !)) (look ! 15 refl)) (and-then ! (load ! (from ! (stop !)) (look ! 11 refl)) (no-more !))))))))) (λ u.
-        answers ! tt plan.ended (plan.clauses 𝓤 H A mem run) (((κ₀, (κ₁, (α ∷ [], (α₁ ∷ [], (α₂ ∷ [], (α₃ ∷ [], tt)))))), (q₀, (q₁, (fullShare, (fullShare, (fullShare, (fullShare, tt)))))), tt, (ref b-text o-text γ-text text, (ref b-list o-list γ-list list, (window, (download, (ref b-table o-table δ table, (ref b-index o-index δ₁ index, (ref b-fates o-fates δ₂ fates, (ref b-confirmations o-confirmations δ₃ confirmations, tt)))))))), (sliceVal (b-text, o-text) (length text) ∷ [], (sliceVal (b-list, o-list) (length list) ∷ [], ((signed w64) .val window ∷ [], (vbool download ∷ [], (sliceVal (b-table, o-table) (length table) ∷ [], (sliceVal (b-index, o-index) (length index) ∷ [], (sliceVal (b-fates, o-fates) (length fates) ∷ [], (sliceVal (b-confirmations, o-confirmations) (length confirmations) ∷ [], tt))))))))), tt) (λ planned ws.
-        fsplit ! $ drop ! $ fsplit ! $ drop ! $ fsplit ! $ drop ! $ fsplit ! $ drop ! $ fsplit ! $ fsplit ! $ move ! (1 ∷ []) $ feqL ! (λ len. move ! (1 ∷ []) $ fsplit ! $ fsplit ! $ move ! (1 ∷ []) $ feqL ! (λ len₁. move ! (1 ∷ []) $ fsplit ! $ fsplit ! $ move ! (1 ∷ []) $ feqL ! (λ len₂. move ! (1 ∷ []) $ fsplit ! $ fsplit ! $ move ! (1 ∷ []) $ feqL ! (λ len₃. move ! (1 ∷ []) $ drop ! $ move ! (4 ∷ []) $ heard ! (PlannedTo (asked text list window download table (plain index) fates confirmations) planned (ws .1 .1 .1 .1 .0) (plain (ws .1 .1 .1 .1 .1 .0)) (ws .1 .1 .1 .1 .1 .1 .0) (ws .1 .1 .1 .1 .1 .1 .1 .0)) (λ e-plan.
-        move ! (4 ∷ []) $ use1 W (‵ (flft κ₀ q₀) ⊛ ‵ (flft κ₁ q₁) ⊛ ‵ (flft (α ∷ []) fullShare) ⊛ ‵ (flft (α₁ ∷ []) fullShare) ⊛ ‵ (flft (α₂ ∷ []) fullShare) ⊛ ‵ (flft (α₃ ∷ []) fullShare) ⊛ ‵ ftrue) (id⊢ 𝓤 _) $ split ! $ move ! (1 ∷ []) $ split ! $ move ! (1 ∷ []) $ split ! $ move ! (1 ∷ []) $ split ! $ move ! (1 ∷ []) $ split ! $ move ! (1 ∷ []) $ split ! $ move ! (1 ∷ []) $ drop ! $ move ! (3 ∷ 14 ∷ 9 ∷ []) $ comes-back ! tt u32 b-table o-table (length table) table (ws .1 .1 .1 .1 .0) len refl room-table $ move ! (4 ∷ 13 ∷ 9 ∷ []) $ comes-back ! tt T.the-row b-index o-index (length index) index (ws .1 .1 .1 .1 .1 .0) len₁ refl room-index $ move ! (5 ∷ 12 ∷ 9 ∷ []) $ comes-back ! tt (Array u32 28) b-fates o-fates (length fates) fates (ws .1 .1 .1 .1 .1 .1 .0) len₂ refl room-fates $ move ! (6 ∷ 11 ∷ 9 ∷ []) $ comes-back ! tt (Array u32 5) b-confirmations o-confirmations (length confirmations) confirmations (ws .1 .1 .1 .1 .1 .1 .1 .0) len₃ refl room-confirmations $ move ! (10 ∷ []) $ lands-as ! planning planned (λ is. land ! (from ! (stop !)) (init ! 32 refl (planning .lawful 𝓤 H A W .typed planned _ is .0)) $
-        assigns ! (addr ! (from ! (fld ! refl (hop ! (look-in ! 36 (sub ! 0 refl (whole !))) (stop !))))) (from ! (stop !)) (init ! 14 refl (tt, tt)) $
-        assigns ! (agg ! (and-then ! (load ! (from ! (stop !)) (look ! 14 refl)) (and-then ! (load ! (from ! (fld ! refl (stop !))) (look-in ! 36 (sub ! 1 refl (whole !)))) (no-more !)))) (from ! (stop !)) (init ! 12 refl (tt, (tt, (record { fits = room-fates .0 }, tt)))) $
-        move ! (2 ∷ 3 ∷ []) $ shares-on ! tt (Array u32 28) b-fates o-fates (length fates) (ws .1 .1 .1 .1 .1 .1 .0) len₂ room-fates (λ α₄ δ₄.
-        nothing ! $ move ! (2 ∷ 0 ∷ []) $ join ! $ nothing ! $ move ! (2 ∷ 0 ∷ []) $ fjoin ! $ owned ! Pl.the-row (Is Pl.the-row) (planning .makes 𝓤 H A W) planned _ is $ fjoin ! $ move ! (1 ∷ 0 ∷ []) $ join ! $ knows ! (InRows planned (ws .1 .1 .1 .1 .1 .1 .0)) (in-rows (asked text list window download table (plain index) fates confirmations) planned (ws .1 .1 .1 .1 .0) (plain (ws .1 .1 .1 .1 .1 .0)) (ws .1 .1 .1 .1 .1 .1 .0) (ws .1 .1 .1 .1 .1 .1 .1 .0) e-plan) $ move ! (1 ∷ 0 ∷ []) $ join ! $
-        calls-from ! fm _ ((of-planned-called 𝓤 H A mem run) .args (((α₄ ∷ [], tt), (fullShare, tt), tt, (planned, (ref b-fates o-fates δ₄ (ws .1 .1 .1 .1 .1 .1 .0), tt)), (planning .val planned ∷ [], (sliceVal (b-fates, o-fates) (length fates) ∷ [], tt))), tt)) ((of-planned-called 𝓤 H A mem run) .post (((α₄ ∷ [], tt), (fullShare, tt), tt, (planned, (ref b-fates o-fates δ₄ (ws .1 .1 .1 .1 .1 .1 .0), tt)), (planning .val planned ∷ [], (sliceVal (b-fates, o-fates) (length fates) ∷ [], tt))), tt)) (of-planned-known (((α₄ ∷ [], tt), (fullShare, tt), tt, (planned, (ref b-fates o-fates δ₄ (ws .1 .1 .1 .1 .1 .1 .0), tt)), (planning .val planned ∷ [], (sliceVal (b-fates, o-fates) (length fates) ∷ [], tt))), tt)) (and-then ! (load ! (from ! (stop !)) (look ! 32 refl)) (and-then ! (load ! (from ! (stop !)) (look ! 12 refl)) (no-more !))) (λ u.
-        answers ! tt of-planned.ended (of-planned.clauses 𝓤 H A mem run) (((α₄ ∷ [], tt), (fullShare, tt), tt, (planned, (ref b-fates o-fates δ₄ (ws .1 .1 .1 .1 .1 .1 .0), tt)), (planning .val planned ∷ [], (sliceVal (b-fates, o-fates) (length fates) ∷ [], tt))), tt) (λ told ws₁.
-        fsplit ! $ drop ! $ fsplit ! $ drop ! $ drop ! $ heard ! (told ≡ ofPlanned planned (countsIn planned (ws .1 .1 .1 .1 .1 .1 .0))) (λ e-told.
-        use1 W (‵ (flft (α₄ ∷ []) fullShare) ⊛ ‵ ftrue) (id⊢ 𝓤 _) $ split ! $ move ! (1 ∷ []) $ drop ! $ move ! (0 ∷ 2 ∷ []) $ shared-back ! tt (Array u32 28) b-fates o-fates (length fates) (ws .1 .1 .1 .1 .1 .1 .0) len₂ room-fates $ move ! (2 ∷ []) $ lands-as ! answer-data told (λ is₁. land ! (from ! (stop !)) (init ! 50 refl (answer-data .lawful 𝓤 H A W .typed told _ is₁ .0)) $
-        returns ! (look ! 50 refl) $ forget ! 50 refl $ forget ! 48 refl $ forget ! 46 refl $ forget ! 44 refl $ forget ! 42 refl $ forget ! 40 refl $ forget ! 38 refl $ forget ! 36 refl $ forget ! 34 refl $ forget ! 32 refl $ forget ! 30 refl $ forget ! 28 refl $ forget ! 26 refl $ forget ! 24 refl $ forget ! 22 refl $ forget ! 20 refl $ forget ! 18 refl $ forget ! 16 refl $ forget ! 14 refl $ forget ! 12 refl $
-        move ! (50 ∷ 51 ∷ []) $ free1 ! $ move ! (48 ∷ 49 ∷ []) $ free1 ! $ move ! (46 ∷ 47 ∷ []) $ free1 ! $ move ! (44 ∷ 45 ∷ []) $ free1 ! $ move ! (42 ∷ 43 ∷ []) $ free1 ! $ move ! (40 ∷ 41 ∷ []) $ free1 ! $ move ! (38 ∷ 39 ∷ []) $ free1 ! $ move ! (36 ∷ 37 ∷ []) $ free1 ! $ move ! (34 ∷ 35 ∷ []) $ free1 ! $ move ! (32 ∷ 33 ∷ []) $ free1 ! $ move ! (30 ∷ 31 ∷ []) $ free1 ! $ move ! (28 ∷ 29 ∷ []) $ free1 ! $ move ! (26 ∷ 27 ∷ []) $ free1 ! $ move ! (24 ∷ 25 ∷ []) $ free1 ! $ move ! (22 ∷ 23 ∷ []) $ free1 ! $ move ! (20 ∷ 21 ∷ []) $ free1 ! $ move ! (18 ∷ 19 ∷ []) $ free1 ! $ move ! (16 ∷ 17 ∷ []) $ free1 ! $ move ! (14 ∷ 15 ∷ []) $ free1 ! $ move ! (12 ∷ 13 ∷ []) $ free1 ! $ free0 ! $
-        keep ! (9 ∷ 8 ∷ 7 ∷ 5 ∷ 1 ∷ 3 ∷ 11 ∷ 10 ∷ 6 ∷ 4 ∷ 0 ∷ 2 ∷ []) $ suffices ! _ (ends-at 𝓤 H A f.ended stayed (f.clauses 𝓤 H A mem run) W bound (answer-data .val told) told (tt, (tt, (tt, (tt, (ws .1 .1 .1 .1 .0, (ws .1 .1 .1 .1 .1 .0, (ws .1 .1 .1 .1 .1 .1 .0, (ws .1 .1 .1 .1 .1 .1 .1 .0, tt)))))))) (tt, (tt, (tt, (tt, (len, (len₁, (len₂, (len₃, tt))))))))) $ says-both ! (answer-is (asked text list window download table (plain index) fates confirmations) planned (ws .1 .1 .1 .1 .0) (plain (ws .1 .1 .1 .1 .1 .0)) (ws .1 .1 .1 .1 .1 .1 .0) (ws .1 .1 .1 .1 .1 .1 .1 .0) e-plan told e-told) (same-plan (asked text list window download table (plain index) fates confirmations) planned (ws .1 .1 .1 .1 .0) (plain (ws .1 .1 .1 .1 .1 .0)) (ws .1 .1 .1 .1 .1 .1 .0) (ws .1 .1 .1 .1 .1 .1 .1 .0) e-plan) $
-        nothing ! $ move ! (6 ∷ 0 ∷ []) $ join ! $ move ! (5 ∷ 0 ∷ []) $ join ! $ move ! (4 ∷ 0 ∷ []) $ join ! $ move ! (3 ∷ 0 ∷ []) $ join ! $ move ! (2 ∷ 0 ∷ []) $ join ! $ move ! (1 ∷ 0 ∷ []) $ join ! $ frame ! $ nothing ! $ move ! (6 ∷ 0 ∷ []) $ fjoin ! $ move ! (5 ∷ 0 ∷ []) $ fjoin ! $ move ! (4 ∷ 0 ∷ []) $ fjoin ! $ move ! (3 ∷ 0 ∷ []) $ fjoin ! $ owned ! bool (Is bool) (truth .makes 𝓤 H A W) download _ refl $ fjoin ! $ owned ! i64 (Is i64) ((signed w64) .makes 𝓤 H A W) window _ is-window $ fjoin ! $ move ! (2 ∷ 0 ∷ []) $ fjoin ! $ move ! (1 ∷ 0 ∷ []) $ fjoin ! $ frame ! $ owned ! An.the-row (Is An.the-row) (answer-data .makes 𝓤 H A W) told _ is₁ $ done !)))))))))))))))))))))))))))))))))))))
+      alloc1 ! (λ l₀. alloc1 ! (λ l₁. alloc1 ! (λ l₂. alloc1 ! (λ l₃. alloc1 ! (λ l₄. alloc1 ! (λ l₅. alloc1 ! (λ l₆. alloc1 ! (λ l₇. alloc1 ! (λ l₈. alloc1 ! (λ l₉. alloc1 ! (λ l₁₀. alloc1 ! (λ l₁₁. alloc1 ! (λ l₁₂. alloc1 ! (λ l₁₃. alloc1 ! (λ l₁₄. alloc1 ! (λ l₁₅. alloc1 ! (λ l₁₆. alloc1 ! (λ l₁₇. alloc1 ! (λ l₁₈. alloc1 ! (λ l₁₉. alloc0 ! $ params1 ! $
+      pass1 ! (init ! 36 refl (tt, (tt, (record { fits = room-text .0 }, tt)))) $ pass1 ! (init ! 34 refl (tt, (tt, (record { fits = room-list .0 }, tt)))) $ pass1 ! (init ! 32 refl ((signed w64) .lawful 𝓤 H A W .typed window _ is-window .0)) $ pass1 ! (init ! 30 refl (tt, tt)) $ pass1 ! (init ! 28 refl (tt, (tt, (record { fits = room-table .0 }, tt)))) $ pass1 ! (init ! 26 refl (tt, (tt, (record { fits = room-index .0 }, tt)))) $ pass1 ! (init ! 24 refl (tt, (tt, (record { fits = room-fates .0 }, tt)))) $ pass1 ! (init ! 22 refl (tt, (tt, (record { fits = room-confirmations .0 }, tt)))) $ pass0 ! $
+      move ! (40 ∷ []) $ split ! $ move ! (1 ∷ []) $ split ! $ move ! (1 ∷ []) $ split ! $ move ! (1 ∷ []) $ split ! $ move ! (1 ∷ []) $ split ! $ move ! (1 ∷ []) $ split ! $ move ! (1 ∷ []) $ drop ! $ move ! (46 ∷ []) $ fsplit ! $ move ! (1 ∷ []) $ fsplit ! $ move ! (1 ∷ []) $ fsplit ! $ drop ! $ fsplit ! $ drop ! $ fsplit ! $ move ! (1 ∷ []) $ fsplit ! $ move ! (1 ∷ []) $ fsplit ! $ move ! (1 ∷ []) $ fsplit ! $ move ! (1 ∷ []) $ drop ! $
+      assigns ! (addr ! (from ! (fld ! refl (hop ! (look-in ! 40 (sub ! 0 refl (whole !))) (stop !))))) (from ! (stop !)) (init ! 30 refl (tt, tt)) $
+      assigns ! (agg ! (and-then ! (load ! (from ! (stop !)) (look ! 30 refl)) (and-then ! (load ! (from ! (fld ! refl (stop !))) (look-in ! 40 (sub ! 1 refl (whole !)))) (no-more !)))) (from ! (stop !)) (init ! 28 refl (tt, (tt, (record { fits = room-table .0 }, tt)))) $
+      assigns ! (addr ! (from ! (fld ! refl (hop ! (look-in ! 38 (sub ! 0 refl (whole !))) (stop !))))) (from ! (stop !)) (init ! 26 refl (tt, tt)) $
+      assigns ! (agg ! (and-then ! (load ! (from ! (stop !)) (look ! 26 refl)) (and-then ! (load ! (from ! (fld ! refl (stop !))) (look-in ! 38 (sub ! 1 refl (whole !)))) (no-more !)))) (from ! (stop !)) (init ! 24 refl (tt, (tt, (record { fits = room-index .0 }, tt)))) $
+      assigns ! (addr ! (from ! (fld ! refl (hop ! (look-in ! 36 (sub ! 0 refl (whole !))) (stop !))))) (from ! (stop !)) (init ! 22 refl (tt, tt)) $
+      assigns ! (agg ! (and-then ! (load ! (from ! (stop !)) (look ! 22 refl)) (and-then ! (load ! (from ! (fld ! refl (stop !))) (look-in ! 36 (sub ! 1 refl (whole !)))) (no-more !)))) (from ! (stop !)) (init ! 20 refl (tt, (tt, (record { fits = room-fates .0 }, tt)))) $
+      assigns ! (addr ! (from ! (fld ! refl (hop ! (look-in ! 34 (sub ! 0 refl (whole !))) (stop !))))) (from ! (stop !)) (init ! 18 refl (tt, tt)) $
+      assigns ! (agg ! (and-then ! (load ! (from ! (stop !)) (look ! 18 refl)) (and-then ! (load ! (from ! (fld ! refl (stop !))) (look-in ! 34 (sub ! 1 refl (whole !)))) (no-more !)))) (from ! (stop !)) (init ! 16 refl (tt, (tt, (record { fits = room-confirmations .0 }, tt)))) $
+      move ! (5 ∷ []) $ shr-twice ! u8 b-text o-text text $ move ! (6 ∷ []) $ shr-twice ! u8 b-list o-list list $ move ! (7 ∷ 11 ∷ []) $ lends-on ! tt u32 b-table o-table (length table) table refl room-table (λ α δ.
+      move ! (9 ∷ 12 ∷ []) $ lends-on ! tt T.the-row b-index o-index (length index) index refl room-index (λ α₁ δ₁.
+      move ! (11 ∷ 13 ∷ []) $ lends-on ! tt (Array u32 28) b-fates o-fates (length fates) fates refl room-fates (λ α₂ δ₂.
+      move ! (13 ∷ 14 ∷ []) $ lends-on ! tt (Array u32 5) b-confirmations o-confirmations (length confirmations) confirmations refl room-confirmations (λ α₃ δ₃.
+      nothing ! $ move ! (2 ∷ 0 ∷ []) $ join ! $ move ! (4 ∷ 0 ∷ []) $ join ! $ move ! (6 ∷ 0 ∷ []) $ join ! $ move ! (8 ∷ 0 ∷ []) $ join ! $ move ! (13 ∷ 0 ∷ []) $ join ! $ move ! (13 ∷ 0 ∷ []) $ join ! $ nothing ! $ move ! (2 ∷ 0 ∷ []) $ fjoin ! $ move ! (3 ∷ 0 ∷ []) $ fjoin ! $ move ! (4 ∷ 0 ∷ []) $ fjoin ! $ move ! (5 ∷ 0 ∷ []) $ fjoin ! $ owned ! bool (Is bool) (truth .makes 𝓤 H A W) download _ refl $ fjoin ! $ owned ! i64 (Is i64) ((signed w64) .makes 𝓤 H A W) window _ is-window $ fjoin ! $ move ! (6 ∷ 0 ∷ []) $ fjoin ! $ move ! (7 ∷ 0 ∷ []) $ fjoin ! $ move ! (1 ∷ 0 ∷ []) $ join ! $ nothing ! $ move ! (1 ∷ 0 ∷ []) $ join ! $
+      calls-from ! fm _ ((plan-called 𝓤 H A mem run) .args (((κ₀, (κ₁, (α ∷ [], (α₁ ∷ [], (α₂ ∷ [], (α₃ ∷ [], tt)))))), (q₀, (q₁, (fullShare, (fullShare, (fullShare, (fullShare, tt)))))), tt, (ref b-text o-text γ-text text, (ref b-list o-list γ-list list, (window, (download, (ref b-table o-table δ table, (ref b-index o-index δ₁ index, (ref b-fates o-fates δ₂ fates, (ref b-confirmations o-confirmations δ₃ confirmations, tt)))))))), (sliceVal (b-text, o-text) (length text) ∷ [], (sliceVal (b-list, o-list) (length list) ∷ [], ((signed w64) .val window ∷ [], (vbool download ∷ [], (sliceVal (b-table, o-table) (length table) ∷ [], (sliceVal (b-index, o-index) (length index) ∷ [], (sliceVal (b-fates, o-fates) (length fates) ∷ [], (sliceVal (b-confirmations, o-confirmations) (length confirmations) ∷ [], tt))))))))), tt)) ((plan-called 𝓤 H A mem run) .post (((κ₀, (κ₁, (α ∷ [], (α₁ ∷ [], (α₂ ∷ [], (α₃ ∷ [], tt)))))), (q₀, (q₁, (fullShare, (fullShare, (fullShare, (fullShare, tt)))))), tt, (ref b-text o-text γ-text text, (ref b-list o-list γ-list list, (window, (download, (ref b-table o-table δ table, (ref b-index o-index δ₁ index, (ref b-fates o-fates δ₂ fates, (ref b-confirmations o-confirmations δ₃ confirmations, tt)))))))), (sliceVal (b-text, o-text) (length text) ∷ [], (sliceVal (b-list, o-list) (length list) ∷ [], ((signed w64) .val window ∷ [], (vbool download ∷ [], (sliceVal (b-table, o-table) (length table) ∷ [], (sliceVal (b-index, o-index) (length index) ∷ [], (sliceVal (b-fates, o-fates) (length fates) ∷ [], (sliceVal (b-confirmations, o-confirmations) (length confirmations) ∷ [], tt))))))))), tt)) (plan-known (((κ₀, (κ₁, (α ∷ [], (α₁ ∷ [], (α₂ ∷ [], (α₃ ∷ [], tt)))))), (q₀, (q₁, (fullShare, (fullShare, (fullShare, (fullShare, tt)))))), tt, (ref b-text o-text γ-text text, (ref b-list o-list γ-list list, (window, (download, (ref b-table o-table δ table, (ref b-index o-index δ₁ index, (ref b-fates o-fates δ₂ fates, (ref b-confirmations o-confirmations δ₃ confirmations, tt)))))))), (sliceVal (b-text, o-text) (length text) ∷ [], (sliceVal (b-list, o-list) (length list) ∷ [], ((signed w64) .val window ∷ [], (vbool download ∷ [], (sliceVal (b-table, o-table) (length table) ∷ [], (sliceVal (b-index, o-index) (length index) ∷ [], (sliceVal (b-fates, o-fates) (length fates) ∷ [], (sliceVal (b-confirmations, o-confirmations) (length confirmations) ∷ [], tt))))))))), tt)) (and-then ! (load ! (from ! (stop !)) (look ! 43 refl)) (and-then ! (load ! (from ! (stop !)) (look ! 41 refl)) (and-then ! (load ! (from ! (stop !)) (look ! 39 refl)) (and-then ! (load ! (from ! (stop !)) (look ! 37 refl)) (and-then ! (load ! (from ! (stop !)) (look ! 23 refl)) (and-then ! (load ! (from ! (stop !)) (look ! 19 refl)) (and-then ! (load ! (from ! (stop !)) (look ! 15 refl)) (and-then ! (load ! (from ! (stop !)) (look ! 11 refl)) (no-more !))))))))) (λ u.
+      answers ! tt plan.ended (plan.clauses 𝓤 H A mem run) (((κ₀, (κ₁, (α ∷ [], (α₁ ∷ [], (α₂ ∷ [], (α₃ ∷ [], tt)))))), (q₀, (q₁, (fullShare, (fullShare, (fullShare, (fullShare, tt)))))), tt, (ref b-text o-text γ-text text, (ref b-list o-list γ-list list, (window, (download, (ref b-table o-table δ table, (ref b-index o-index δ₁ index, (ref b-fates o-fates δ₂ fates, (ref b-confirmations o-confirmations δ₃ confirmations, tt)))))))), (sliceVal (b-text, o-text) (length text) ∷ [], (sliceVal (b-list, o-list) (length list) ∷ [], ((signed w64) .val window ∷ [], (vbool download ∷ [], (sliceVal (b-table, o-table) (length table) ∷ [], (sliceVal (b-index, o-index) (length index) ∷ [], (sliceVal (b-fates, o-fates) (length fates) ∷ [], (sliceVal (b-confirmations, o-confirmations) (length confirmations) ∷ [], tt))))))))), tt) (λ planned ws.
+      fsplit ! $ drop ! $ fsplit ! $ drop ! $ fsplit ! $ drop ! $ fsplit ! $ drop ! $ fsplit ! $ fsplit ! $ move ! (1 ∷ []) $ feqL ! (λ len. move ! (1 ∷ []) $ fsplit ! $ fsplit ! $ move ! (1 ∷ []) $ feqL ! (λ len₁. move ! (1 ∷ []) $ fsplit ! $ fsplit ! $ move ! (1 ∷ []) $ feqL ! (λ len₂. move ! (1 ∷ []) $ fsplit ! $ fsplit ! $ move ! (1 ∷ []) $ feqL ! (λ len₃. move ! (1 ∷ []) $ drop ! $ move ! (4 ∷ []) $ heard ! (PlannedTo (asked text list window download table (plain index) fates confirmations) planned (ws .1 .1 .1 .1 .0) (plain (ws .1 .1 .1 .1 .1 .0)) (ws .1 .1 .1 .1 .1 .1 .0) (ws .1 .1 .1 .1 .1 .1 .1 .0)) (λ e-plan.
+      move ! (4 ∷ []) $ use1 W (‵ (flft κ₀ q₀) ⊛ ‵ (flft κ₁ q₁) ⊛ ‵ (flft (α ∷ []) fullShare) ⊛ ‵ (flft (α₁ ∷ []) fullShare) ⊛ ‵ (flft (α₂ ∷ []) fullShare) ⊛ ‵ (flft (α₃ ∷ []) fullShare) ⊛ ‵ ftrue) (id⊢ 𝓤 _) $ split ! $ move ! (1 ∷ []) $ split ! $ move ! (1 ∷ []) $ split ! $ move ! (1 ∷ []) $ split ! $ move ! (1 ∷ []) $ split ! $ move ! (1 ∷ []) $ split ! $ move ! (1 ∷ []) $ drop ! $ move ! (3 ∷ 14 ∷ 9 ∷ []) $ comes-back ! tt u32 b-table o-table (length table) table (ws .1 .1 .1 .1 .0) len refl room-table $ move ! (4 ∷ 13 ∷ 9 ∷ []) $ comes-back ! tt T.the-row b-index o-index (length index) index (ws .1 .1 .1 .1 .1 .0) len₁ refl room-index $ move ! (5 ∷ 12 ∷ 9 ∷ []) $ comes-back ! tt (Array u32 28) b-fates o-fates (length fates) fates (ws .1 .1 .1 .1 .1 .1 .0) len₂ refl room-fates $ move ! (6 ∷ 11 ∷ 9 ∷ []) $ comes-back ! tt (Array u32 5) b-confirmations o-confirmations (length confirmations) confirmations (ws .1 .1 .1 .1 .1 .1 .1 .0) len₃ refl room-confirmations $ move ! (10 ∷ []) $ lands-as ! planning planned (λ is. land ! (from ! (stop !)) (init ! 32 refl (planning .lawful 𝓤 H A W .typed planned _ is .0)) $
+      assigns ! (addr ! (from ! (fld ! refl (hop ! (look-in ! 36 (sub ! 0 refl (whole !))) (stop !))))) (from ! (stop !)) (init ! 14 refl (tt, tt)) $
+      assigns ! (agg ! (and-then ! (load ! (from ! (stop !)) (look ! 14 refl)) (and-then ! (load ! (from ! (fld ! refl (stop !))) (look-in ! 36 (sub ! 1 refl (whole !)))) (no-more !)))) (from ! (stop !)) (init ! 12 refl (tt, (tt, (record { fits = room-fates .0 }, tt)))) $
+      move ! (2 ∷ 3 ∷ []) $ shares-on ! tt (Array u32 28) b-fates o-fates (length fates) (ws .1 .1 .1 .1 .1 .1 .0) len₂ room-fates (λ α₄ δ₄.
+      nothing ! $ move ! (2 ∷ 0 ∷ []) $ join ! $ nothing ! $ move ! (2 ∷ 0 ∷ []) $ fjoin ! $ owned ! Pl.the-row (Is Pl.the-row) (planning .makes 𝓤 H A W) planned _ is $ fjoin ! $ move ! (1 ∷ 0 ∷ []) $ join ! $ knows ! (InRows planned (ws .1 .1 .1 .1 .1 .1 .0)) (in-rows (asked text list window download table (plain index) fates confirmations) planned (ws .1 .1 .1 .1 .0) (plain (ws .1 .1 .1 .1 .1 .0)) (ws .1 .1 .1 .1 .1 .1 .0) (ws .1 .1 .1 .1 .1 .1 .1 .0) e-plan) $ move ! (1 ∷ 0 ∷ []) $ join ! $
+      calls-from ! fm _ ((of-planned-called 𝓤 H A mem run) .args (((α₄ ∷ [], tt), (fullShare, tt), tt, (planned, (ref b-fates o-fates δ₄ (ws .1 .1 .1 .1 .1 .1 .0), tt)), (planning .val planned ∷ [], (sliceVal (b-fates, o-fates) (length fates) ∷ [], tt))), tt)) ((of-planned-called 𝓤 H A mem run) .post (((α₄ ∷ [], tt), (fullShare, tt), tt, (planned, (ref b-fates o-fates δ₄ (ws .1 .1 .1 .1 .1 .1 .0), tt)), (planning .val planned ∷ [], (sliceVal (b-fates, o-fates) (length fates) ∷ [], tt))), tt)) (of-planned-known (((α₄ ∷ [], tt), (fullShare, tt), tt, (planned, (ref b-fates o-fates δ₄ (ws .1 .1 .1 .1 .1 .1 .0), tt)), (planning .val planned ∷ [], (sliceVal (b-fates, o-fates) (length fates) ∷ [], tt))), tt)) (and-then ! (load ! (from ! (stop !)) (look ! 32 refl)) (and-then ! (load ! (from ! (stop !)) (look ! 12 refl)) (no-more !))) (λ u.
+      answers ! tt of-planned.ended (of-planned.clauses 𝓤 H A mem run) (((α₄ ∷ [], tt), (fullShare, tt), tt, (planned, (ref b-fates o-fates δ₄ (ws .1 .1 .1 .1 .1 .1 .0), tt)), (planning .val planned ∷ [], (sliceVal (b-fates, o-fates) (length fates) ∷ [], tt))), tt) (λ told ws₁.
+      fsplit ! $ drop ! $ fsplit ! $ drop ! $ drop ! $ heard ! (told ≡ ofPlanned planned (countsIn planned (ws .1 .1 .1 .1 .1 .1 .0))) (λ e-told.
+      use1 W (‵ (flft (α₄ ∷ []) fullShare) ⊛ ‵ ftrue) (id⊢ 𝓤 _) $ split ! $ move ! (1 ∷ []) $ drop ! $ move ! (0 ∷ 2 ∷ []) $ shared-back ! tt (Array u32 28) b-fates o-fates (length fates) (ws .1 .1 .1 .1 .1 .1 .0) len₂ room-fates $ move ! (2 ∷ []) $ lands-as ! answer-data told (λ is₁. land ! (from ! (stop !)) (init ! 50 refl (answer-data .lawful 𝓤 H A W .typed told _ is₁ .0)) $
+      returns ! (look ! 50 refl) $ forget ! 50 refl $ forget ! 48 refl $ forget ! 46 refl $ forget ! 44 refl $ forget ! 42 refl $ forget ! 40 refl $ forget ! 38 refl $ forget ! 36 refl $ forget ! 34 refl $ forget ! 32 refl $ forget ! 30 refl $ forget ! 28 refl $ forget ! 26 refl $ forget ! 24 refl $ forget ! 22 refl $ forget ! 20 refl $ forget ! 18 refl $ forget ! 16 refl $ forget ! 14 refl $ forget ! 12 refl $
+      move ! (50 ∷ 51 ∷ []) $ free1 ! $ move ! (48 ∷ 49 ∷ []) $ free1 ! $ move ! (46 ∷ 47 ∷ []) $ free1 ! $ move ! (44 ∷ 45 ∷ []) $ free1 ! $ move ! (42 ∷ 43 ∷ []) $ free1 ! $ move ! (40 ∷ 41 ∷ []) $ free1 ! $ move ! (38 ∷ 39 ∷ []) $ free1 ! $ move ! (36 ∷ 37 ∷ []) $ free1 ! $ move ! (34 ∷ 35 ∷ []) $ free1 ! $ move ! (32 ∷ 33 ∷ []) $ free1 ! $ move ! (30 ∷ 31 ∷ []) $ free1 ! $ move ! (28 ∷ 29 ∷ []) $ free1 ! $ move ! (26 ∷ 27 ∷ []) $ free1 ! $ move ! (24 ∷ 25 ∷ []) $ free1 ! $ move ! (22 ∷ 23 ∷ []) $ free1 ! $ move ! (20 ∷ 21 ∷ []) $ free1 ! $ move ! (18 ∷ 19 ∷ []) $ free1 ! $ move ! (16 ∷ 17 ∷ []) $ free1 ! $ move ! (14 ∷ 15 ∷ []) $ free1 ! $ move ! (12 ∷ 13 ∷ []) $ free1 ! $ free0 ! $
+      keep ! (9 ∷ 8 ∷ 7 ∷ 5 ∷ 1 ∷ 3 ∷ 11 ∷ 10 ∷ 6 ∷ 4 ∷ 0 ∷ 2 ∷ []) $ suffices ! _ (ends-at 𝓤 H A f.ended stayed (f.clauses 𝓤 H A mem run) W bound (answer-data .val told) told (tt, (tt, (tt, (tt, (ws .1 .1 .1 .1 .0, (ws .1 .1 .1 .1 .1 .0, (ws .1 .1 .1 .1 .1 .1 .0, (ws .1 .1 .1 .1 .1 .1 .1 .0, tt)))))))) (tt, (tt, (tt, (tt, (len, (len₁, (len₂, (len₃, tt))))))))) $ says-both ! (answer-is (asked text list window download table (plain index) fates confirmations) planned (ws .1 .1 .1 .1 .0) (plain (ws .1 .1 .1 .1 .1 .0)) (ws .1 .1 .1 .1 .1 .1 .0) (ws .1 .1 .1 .1 .1 .1 .1 .0) e-plan told e-told) (same-plan (asked text list window download table (plain index) fates confirmations) planned (ws .1 .1 .1 .1 .0) (plain (ws .1 .1 .1 .1 .1 .0)) (ws .1 .1 .1 .1 .1 .1 .0) (ws .1 .1 .1 .1 .1 .1 .1 .0) e-plan) $
+      nothing ! $ move ! (6 ∷ 0 ∷ []) $ join ! $ move ! (5 ∷ 0 ∷ []) $ join ! $ move ! (4 ∷ 0 ∷ []) $ join ! $ move ! (3 ∷ 0 ∷ []) $ join ! $ move ! (2 ∷ 0 ∷ []) $ join ! $ move ! (1 ∷ 0 ∷ []) $ join ! $ frame ! $ nothing ! $ move ! (6 ∷ 0 ∷ []) $ fjoin ! $ move ! (5 ∷ 0 ∷ []) $ fjoin ! $ move ! (4 ∷ 0 ∷ []) $ fjoin ! $ move ! (3 ∷ 0 ∷ []) $ fjoin ! $ owned ! bool (Is bool) (truth .makes 𝓤 H A W) download _ refl $ fjoin ! $ owned ! i64 (Is i64) ((signed w64) .makes 𝓤 H A W) window _ is-window $ fjoin ! $ move ! (2 ∷ 0 ∷ []) $ fjoin ! $ move ! (1 ∷ 0 ∷ []) $ fjoin ! $ frame ! $ owned ! An.the-row (Is An.the-row) (answer-data .makes 𝓤 H A W) told _ is₁ $ done !)))))))))))))))))))))))))))))))))))))
 
 module _ {M : Type 1} (𝓤 : URA M) (H : Heap 𝓤) (A : Atoms 𝓤) (W : Given 𝓤 H A) (mem : Memory → SProp 𝓤) (run : Routine → Fun 𝓤) where
   walks : (𝓣 : Tables 𝓤 H) → Triple 𝓤 (𝓣 .C #planner·plan) (plan-called 𝓤 H A mem run) → Triple 𝓤 (𝓣 .C #ox-import·of-planned) (of-planned-called 𝓤 H A mem run) → Walks 𝓤 H A f.ended stayed (WpFn 𝓤 H (𝓣 .C) (𝓣 .Λ) code.function) (f.clauses 𝓤 H A mem run)

@@ -7,6 +7,9 @@ use borrow.Author.Needs.{needs}
 use Rattle.showplan.proofs.shown.Statement.{statement}
 use Rattle.showplan.proofs.shown.Tie as tie
 use Rattle.showplan.proofs.shown.Reads as reads
+use Rattle.show.proofs.write_too_long.Reads as write-too-long-reads
+use Rattle.showplan.proofs.planned_in.Reads as planned-in-reads
+use Rattle.showplan.proofs.show_planned.Reads as show-planned-reads
 
 write-too-long-requires : tie.Need-write-too-long-requires
 write-too-long-requires c κs = search needs
@@ -17,30 +20,27 @@ same-length c = search needs
 returns : tie.Need-returns
 returns c = (search too-long-put, search too-long-size)
 
-slice-aggregate-plan : tie.Need-slice-aggregate-plan
-slice-aggregate-plan c = search needs
+slice-aggregate-planned-in : tie.Need-slice-aggregate-planned-in
+slice-aggregate-planned-in c = search needs
 
-slice-aggregate-plan-2 : tie.Need-slice-aggregate-plan-2
-slice-aggregate-plan-2 c = search needs
+slice-aggregate-planned-in-2 : tie.Need-slice-aggregate-planned-in-2
+slice-aggregate-planned-in-2 c = search needs
 
-slice-aggregate-plan-3 : tie.Need-slice-aggregate-plan-3
-slice-aggregate-plan-3 c = search needs
+slice-aggregate-planned-in-3 : tie.Need-slice-aggregate-planned-in-3
+slice-aggregate-planned-in-3 c = search needs
 
-slice-aggregate-plan-4 : tie.Need-slice-aggregate-plan-4
-slice-aggregate-plan-4 c = search needs
+slice-aggregate-planned-in-4 : tie.Need-slice-aggregate-planned-in-4
+slice-aggregate-planned-in-4 c = search needs
 
-slice-aggregate-plan-5 : tie.Need-slice-aggregate-plan-5
-slice-aggregate-plan-5 c = search needs
-
-plan-requires : tie.Need-plan-requires
-plan-requires c κs = search needs
+planned-in-requires : tie.Need-planned-in-requires
+planned-in-requires c κs = search needs
 
 slice-aggregate-show-planned : tie.Need-slice-aggregate-show-planned
 slice-aggregate-show-planned c = search needs
 
 show-planned-requires : tie.Need-show-planned-requires
 show-planned-requires c κs =
-    let few : recordsIn (c .before .before .before .before .before .before .plan .result) ≤ 3000 = few-records _ _ _ _ _ _ (c .before .before .before .before .before .before .plan .ensures) refl in
+    let few : recordsIn (c .before .before .before .before .before .planned-in .result) ≤ 3000 = few-records _ _ _ _ _ _ (c .before .before .before .before .before .planned-in .ensures) refl in
     (omega arith, omega arith, search needs)
 
 same-length-2 : tie.Need-same-length-2
@@ -48,7 +48,7 @@ same-length-2 c = search needs
 
 returns-2 : tie.Need-returns-2
 returns-2 c =
-    (planned-put _ _ _ _ _ _ (c .before .before .before .before .before .before .before .before .before .plan .ensures) _ _ _ _ refl (omega arith) (c .before .before .show-planned .ensures .0), c .before .before .show-planned .ensures .1)
+    (planned-put _ _ _ _ _ _ (c .before .before .before .before .before .before .before .before .planned-in .ensures) _ _ _ _ refl (omega arith) (c .before .before .show-planned .ensures .0), c .before .before .show-planned .ensures .1)
 
 pub shown-spec : {M : Type 1} → statement M
 shown-spec =
@@ -57,12 +57,11 @@ shown-spec =
     write-too-long-requires
     same-length
     returns
-    slice-aggregate-plan
-    slice-aggregate-plan-2
-    slice-aggregate-plan-3
-    slice-aggregate-plan-4
-    slice-aggregate-plan-5
-    plan-requires
+    slice-aggregate-planned-in
+    slice-aggregate-planned-in-2
+    slice-aggregate-planned-in-3
+    slice-aggregate-planned-in-4
+    planned-in-requires
     slice-aggregate-show-planned
     show-planned-requires
     same-length-2
