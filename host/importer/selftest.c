@@ -31,8 +31,8 @@ static bool all_are(const void *bytes, size_t length, unsigned char byte) {
     return true;
 }
 #define FILL(table) memset((table), 0xEE, sizeof(table))
-#define IS_ZERO(table) all_are((table), sizeof(table), 0)
-#define IS_UNTOUCHED(table) all_are((table), sizeof(table), 0xEE)
+#define IS_ZERO(table) all_are(&(table), sizeof(table), 0)
+#define IS_UNTOUCHED(table) all_are(&(table), sizeof(table), 0xEE)
 
 /* An output is `text` at its front and untouched behind it. */
 static bool is_output(const char *out, size_t room, size_t length, const char *text) {
