@@ -26,7 +26,7 @@ function read_log(log_file,    line, at, file, found) {
     close(log_file)
     return found
 }
-function judge(    path) {
+function judge(    path, own) {
     if (label == "") return
     if (place == "") { fail(name ": " label ": no place"); return }
     if (pairs == 0) { fail(name ": " label ": changes nothing"); return }
@@ -39,6 +39,9 @@ function judge(    path) {
         # without a file of its own the proof was looked for, and none was found
         if ((crate "::" place) in open) { passed++; return }
         gsub(/::/, "/", path); path = "proofs/" path "/Proof.antt"
+        # a function that calls itself
+        own = path; sub(/[^\/]*\/Proof\.antt$/, "+&", own)
+        if ((own in lost) || (own in unfit)) path = own
     }
     if (path in unfit) fail(name ": " label ": " path " does not fit")
     else if (!(path in lost)) fail(name ": " label ": no fact is missing in " path)
