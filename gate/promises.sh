@@ -1,10 +1,10 @@
 #!/bin/sh
 # docs/PROMISES.md beside the sources: `gate/promises.sh [ROOT]`. It fails, with a line each, where
-#   a public function has no row, or no `ensures`; an exported one has a `requires`, or fewer than two must-fail edits;
+#   a public function has no row, no `ensures`, or fewer than two must-fail edits; an exported one has a `requires`;
 #   a row stands twice, names a call, a file, a definition, an edit or a theorem that is not there, or is wrong in whether the call asks;
 #   a call is not determined by a theorem `CALL-once`, or `CALL-TABLE-once` for each table that is lent;
 #   docs/DECISIONS.md names an edit that is not there.
-# The tests' own crates have no rows. Helpers with fewer than two edits are told, and do not fail.
+# The tests' own crates have no rows.
 set -u
 cd "${1:-$(dirname "$0")/..}" || exit 1
 grep '^edit: ' crates/*/must-fail/*.edit | LC_ALL=C awk '
@@ -101,7 +101,7 @@ END {
         # edits
         n = split(edits[call], label, /[,;] */); given = 0
         for (k = 1; k <= n; k++) if (label[k] != "") { given++; if (!(label[k] in edit)) fail(call ": no edit " label[k]) }
-        if (given < 2) { if (call in exported) fail(call ": " given " edits"); else few = few " " call }
+        if (given < 2) fail(call ": " given " edits")
         if (failed == before) passed++
     }
     for (i = 1; i <= rows; i++) {
@@ -134,7 +134,6 @@ END {
             else passed++
         }
     }
-    if (few != "") print "note: helpers with fewer than two edits:" few
     print "promises: " passed + 0 " passed, " failed + 0 " failed"
     exit failed > 0 || passed + 0 == 0
 }' - crates/*/src/*.rt crates/*/proofs/Determined.antt docs/DECISIONS.md docs/PROMISES.md
