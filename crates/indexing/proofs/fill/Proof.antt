@@ -60,8 +60,17 @@ use Rattle.indexing.proofs.fill.Code as code
 use Rattle.indexing.proofs.fill.Code.Mir as pieces
 
 abbrev stayed : Stays (f.ended .signature .params) (f.ended .kept)
-stayed = (stay-none-slice (0 ∷ []) tt (slot (λ _. u8)) yes, (stay-slice (1 ∷ []) tt (slot (λ _. T.the-row)), (stay-none (λ _.
-    usize) yes, (stay-none (λ _. usize) yes, tt))))
+stayed = (
+  stay-none-slice (0 ∷ []) tt (slot (λ _. u8)) yes,
+  (
+    stay-slice (1 ∷ []) tt (slot (λ _. T.the-row)),
+    (
+      stay-none (λ _.
+          usize) yes,
+      (stay-none (λ _. usize) yes, tt),
+    ),
+  ),
+)
 
 abbrev ty : ℕ → Ty
 ty = kind (code.function .locals)
@@ -80,7 +89,7 @@ module _ {M : Type 1} (𝓤 : URA M) (H : Heap 𝓤) (A : Atoms 𝓤) (W : Given
     Fun 𝓤) (κ₀ κ₁ : Lft) (q₀ q₁ : Share) (b-list o-list : ℕ) (γ-list : GName) (list : List ℕ) (b-rows o-rows : ℕ) (γ-rows : GName) (rows : List
     Contact) (n : ℕ) (to : ℕ)
     (room-list : Room u8 (length list)) (room-rows : Room T.the-row (length rows)) (fits-n : n < 2 ^ 64) (fits-to : to < 2 ^ 64) (asks : (n ≤ to) ×
-        (to ≤ length rows) × (0 < n → Sound list n)) where
+    (to ≤ length rows) × (0 < n → Sound list n)) where
   abbrev at : Vals f.signature (κ₀, (κ₁, tt))
   at = (sliceVal (b-list, o-list) (length list) ∷ [], (sliceVal (b-rows, o-rows) (length rows) ∷ [], (vint w64 n ∷ [], (vint w64 to ∷ [], tt))))
 
@@ -155,9 +164,26 @@ module _ {M : Type 1} (𝓤 : URA M) (H : Heap 𝓤) (A : Atoms 𝓤) (W : Given
         with-data ! (word w64) (i .at) (refl, i .at-fits) $ move ! (2 ∷ 0 ∷ []) $ fjoin ! $ move ! (1 ∷ 0 ∷ []) $ join ! $
         knows ! ((i .k) < n → (i .at) ≤ 16777216) (fill-place list n to rows (asks .0) (asks .2) (i .k) (i .at) (i .zs) (i .ok)) $
         move ! (1 ∷ 0 ∷ []) $ join ! $
-        calls-on ! fm record-at.ended (record-at.clauses 𝓤 H A mem run) record-at-known (((κ₀, tt), (q₀, tt), tt,
-        (ref b-list o-list γ-list list, (i .at, (i .k, (n, tt)))), (sliceVal (b-list, o-list) (length list) ∷ [], (vint w64 (i .at) ∷ [], (vint w64
-        (i .k) ∷ [], (vint w64 n ∷ [], tt))))), tt) refl (and-then ! (load ! (from ! (stop !)) (look ! 22 refl)) (and-then ! (load !
+        calls-on ! fm record-at.ended (record-at.clauses 𝓤 H A mem run) record-at-known (
+          (
+            (κ₀, tt),
+            (q₀, tt),
+            tt,
+            (ref b-list o-list γ-list list, (i .at, (i .k, (n, tt)))),
+            (
+              sliceVal (b-list, o-list) (length list) ∷ [],
+              (
+                vint w64 (i .at) ∷ [],
+                (
+                  vint w64
+                      (i .k) ∷ [],
+                  (vint w64 n ∷ [], tt),
+                ),
+              ),
+            ),
+          ),
+          tt,
+        ) refl (and-then ! (load ! (from ! (stop !)) (look ! 22 refl)) (and-then ! (load !
         (from ! (stop !)) (look ! 14 refl)) (and-then ! (load ! (from ! (stop !)) (look ! 12 refl)) (and-then ! (load !
         (from ! (stop !)) (look ! 18 refl)) (no-more !))))) (λ u c ws.
         unmoved ! $ unmoved ! $ unmoved ! $ unmoved ! $ drop ! $ heard ! (c ≡ contactOf (recordAt list (i .at) (i .k) n)) (λ ec.
@@ -180,9 +206,26 @@ module _ {M : Type 1} (𝓤 : URA M) (H : Heap 𝓤) (A : Atoms 𝓤) (W : Given
         with-data ! (word w64) (i .at) (refl, i .at-fits) $ move ! (2 ∷ 0 ∷ []) $ fjoin ! $ move ! (1 ∷ 0 ∷ []) $ join ! $
         knows ! ((i .k) < n → (i .at) ≤ 16777216) (fill-place list n to rows (asks .0) (asks .2) (i .k) (i .at) (i .zs) (i .ok)) $
         move ! (1 ∷ 0 ∷ []) $ join ! $
-        calls-on ! fm place-after.ended (place-after.clauses 𝓤 H A mem run) place-after-known (((κ₀, tt), (q₀, tt), tt,
-        (ref b-list o-list γ-list list, (i .at, (i .k, (n, tt)))), (sliceVal (b-list, o-list) (length list) ∷ [], (vint w64 (i .at) ∷ [], (vint w64
-        (i .k) ∷ [], (vint w64 n ∷ [], tt))))), tt) refl (and-then ! (load ! (from ! (stop !)) (look ! 22 refl)) (and-then ! (load !
+        calls-on ! fm place-after.ended (place-after.clauses 𝓤 H A mem run) place-after-known (
+          (
+            (κ₀, tt),
+            (q₀, tt),
+            tt,
+            (ref b-list o-list γ-list list, (i .at, (i .k, (n, tt)))),
+            (
+              sliceVal (b-list, o-list) (length list) ∷ [],
+              (
+                vint w64 (i .at) ∷ [],
+                (
+                  vint w64
+                      (i .k) ∷ [],
+                  (vint w64 n ∷ [], tt),
+                ),
+              ),
+            ),
+          ),
+          tt,
+        ) refl (and-then ! (load ! (from ! (stop !)) (look ! 22 refl)) (and-then ! (load !
         (from ! (stop !)) (look ! 14 refl)) (and-then ! (load ! (from ! (stop !)) (look ! 12 refl)) (and-then ! (load !
         (from ! (stop !)) (look ! 18 refl)) (no-more !))))) (λ u next ws₁.
         unmoved ! $ unmoved ! $ unmoved ! $ unmoved ! $ drop ! $ heard ! (next ≡ placeAfter list (i .at) (i .k) n) (λ en.
@@ -192,8 +235,14 @@ module _ {M : Type 1} (𝓤 : URA M) (H : Heap 𝓤) (A : Atoms 𝓤) (W : Given
         (store ! 12 refl (tt, record { fits = more i less })) $
         forget ! 10 refl $ forget ! 8 refl $ forget ! 6 refl $ forget ! 4 refl $
         keep ! (2 ∷ 3 ∷ 1 ∷ 0 ∷ 4 ∷ 5 ∷ 6 ∷ 7 ∷ 8 ∷ 9 ∷ 10 ∷ 11 ∷ 12 ∷ 13 ∷ 14 ∷ 15 ∷ 16 ∷ 17 ∷ 18 ∷ 19 ∷ 20 ∷ 21 ∷ 22 ∷ 23 ∷ 24 ∷ 25 ∷ []) $
-        again ! Nearer At i (record { k = i .k + 1; at = next; at-fits = is₁ .1; zs = set (i .zs) (i .k) c; ok = fill-on list n to rows (asks .0)
-        (asks .2) (i .k) (i .at) (i .zs) (i .ok) (ltb→lt (i .k) to less) c ec next en }) (omega (arith, ltb→lt (i .k) to less))))))))))
+        again ! Nearer At i (record {
+          k = i .k + 1;
+          at = next;
+          at-fits = is₁ .1;
+          zs = set (i .zs) (i .k) c;
+          ok = fill-on list n to rows (asks .0)
+              (asks .2) (i .k) (i .at) (i .zs) (i .ok) (ltb→lt (i .k) to less) c ec next en;
+        }) (omega (arith, ltb→lt (i .k) to less))))))))))
         (λ over. jumps ! $ exec ! C Λ E pieces.t-4 (atRet E Post) $
         own-closes ! tt T.the-row b-rows o-rows (length rows) rows (i .zs) (i .ok .same) (i .ok .same) room-rows $
         assigns ! (of-opd ! (unit-lit !)) (from ! (stop !)) (init ! 24 refl (tt, tt)) $
@@ -203,8 +252,16 @@ module _ {M : Type 1} (𝓤 : URA M) (H : Heap 𝓤) (A : Atoms 𝓤) (W : Given
         move ! (24 ∷ 25 ∷ 22 ∷ 23 ∷ 20 ∷ 21 ∷ 18 ∷ 19 ∷ 16 ∷ 17 ∷ 14 ∷ 15 ∷ 12 ∷ 13 ∷ 10 ∷ 11 ∷ 8 ∷ 9 ∷ 6 ∷ 7 ∷ 4 ∷ 5 ∷ []) $ free1 ! $ free1 ! $
         free1 ! $ free1 ! $ free1 ! $ free1 ! $ free1 ! $ free1 ! $ free1 ! $ free1 ! $ free1 ! $ free0 ! $
         -- what it promises, the tokens and the parameters
-        keep ! (3 ∷ 1 ∷ 2 ∷ 0 ∷ []) $ suffices ! _ (ends-at 𝓤 H A f.ended stayed (f.clauses 𝓤 H A mem run) W bound vunit tt (tt, (i .zs, (tt,
-        (tt, tt)))) (tt, ((i .ok .same), (tt, (tt, tt))))) $
+        keep ! (3 ∷ 1 ∷ 2 ∷ 0 ∷ []) $ suffices ! _ (ends-at 𝓤 H A f.ended stayed (f.clauses 𝓤 H A mem run) W bound vunit tt (
+          tt,
+          (
+            i .zs,
+            (
+              tt,
+              (tt, tt),
+            ),
+          ),
+        ) (tt, ((i .ok .same), (tt, (tt, tt))))) $
         says ! (fill-end list n to rows (asks .0) (asks .2) (i .k) (i .at) (i .zs) (i .ok) (nltb→le (i .k) to over)) $
         nothing ! $ move ! (2 ∷ 0 ∷ []) $ join ! $ move ! (1 ∷ 0 ∷ []) $ join ! $ frame ! $ nothing ! $ with-data ! (word w64) to (refl, fits-to) $
         with-data ! (word w64) n (refl, fits-n) $ move ! (2 ∷ 0 ∷ []) $ fjoin ! $ move ! (1 ∷ 0 ∷ []) $ fjoin ! $ frame ! $
@@ -212,48 +269,76 @@ module _ {M : Type 1} (𝓤 : URA M) (H : Heap 𝓤) (A : Atoms 𝓤) (W : Given
 
   walk : (𝓣 : Tables 𝓤 H) → FmC 𝓤 H (W .laws) (𝓣 .C) → Triple 𝓤 (𝓣 .C #indexing·record-at) (record-at-called 𝓤 H A mem run) →
       Triple 𝓤 (𝓣 .C #indexing·place-after) (place-after-called 𝓤 H A mem run)
-      → ent 𝓤 (onEntry 𝓤 H A f.signature (κ₀, (κ₁, tt)) (q₀, (q₁, tt)) (ref b-list o-list γ-list list,
-          (ref b-rows o-rows γ-rows rows, (n, (to, tt)))) at) (WpFn 𝓤 H (𝓣 .C) (𝓣 .Λ) code.function
-          (sliceVal (b-list, o-list) (length list) ∷ sliceVal (b-rows, o-rows) (length rows) ∷ vint w64 n ∷ vint w64 to ∷ []) Post)
+      → ent 𝓤 (onEntry 𝓤 H A f.signature (κ₀, (κ₁, tt)) (q₀, (q₁, tt)) (
+        ref b-list o-list γ-list list,
+        (ref b-rows o-rows γ-rows rows, (n, (to, tt))),
+      ) at) (WpFn 𝓤 H (𝓣 .C) (𝓣 .Λ) code.function
+      (sliceVal (b-list, o-list) (length list) ∷ sliceVal (b-rows, o-rows) (length rows) ∷ vint w64 n ∷ vint w64 to ∷ []) Post)
   walk 𝓣 fm record-at-known place-after-known =
       qed W ((‵ (flft κ₀ q₀) ⊛ ‵ (flft κ₁ q₁) ⊛ ‵ ftrue) ∷
-          ‵ (owns (ShrSlice (named 0) κ₀ u8 ∷ MutSlice (named 1) κ₁ T.the-row ∷ usize ∷ usize ∷ []) (ref b-list o-list γ-list list,
-          (ref b-rows o-rows γ-rows rows, (n, (to, tt)))) at) ∷ []) ∵ enter ! (𝓣 .C) (𝓣 .Λ) code.function
-          (sliceVal (b-list, o-list) (length list) ∷ sliceVal (b-rows, o-rows) (length rows) ∷ vint w64 n ∷ vint w64 to ∷ []) _ $
-        alloc1 ! (λ l₀. alloc1 ! (λ l₁. alloc1 ! (λ l₂. alloc1 ! (λ l₃. alloc1 ! (λ l₄. alloc1 ! (λ l₅. alloc1 ! (λ l₆. alloc1 ! (λ l₇.
-        alloc1 ! (λ l₈. alloc1 ! (λ l₉. alloc1 ! (λ l₁₀. alloc0 ! $ params1 ! $
-        pass1 ! (init ! 18 refl (tt, (tt, (record { fits = room-list .0 }, tt)))) $
-        pass1 ! (init ! 16 refl (tt, (tt, (record { fits = room-rows .0 }, tt)))) $ pass1 ! (init ! 14 refl (tt, record { fits = fits-n })) $
-        pass1 ! (init ! 12 refl (tt, record { fits = fits-to })) $ pass0 ! $
-        move ! (22 ∷ []) $ split ! $ move ! (1 ∷ []) $ split ! $ move ! (1 ∷ []) $ drop ! $ move ! (24 ∷ []) $ fsplit ! $ move ! (1 ∷ []) $
-        fsplit ! $ move ! (1 ∷ []) $ fsplit ! $ drop ! $ fsplit ! $ drop ! $ drop ! $
-        assigns ! (of-opd ! (lit ! tt)) (from ! (stop !)) (init ! 14 refl (tt, record { fits = lit< tt })) $
-        assigns ! (of-opd ! (lit ! tt)) (from ! (stop !)) (init ! 12 refl (tt, record { fits = lit< tt })) $
-        move ! (0 ∷ 2 ∷ []) $ own-opens ! tt T.the-row b-rows o-rows rows $ first ! $ blocks ! $
-        loops ! 𝓣 Nearer Nearer-wf (At 𝓣 fm record-at-known place-after-known l₀ l₁ l₂ l₃ l₄ l₅ l₆ l₇ l₈ l₉ l₁₀) (turns 𝓣 fm record-at-known
-        place-after-known l₀ l₁ l₂ l₃ l₄ l₅ l₆ l₇ l₈ l₉ l₁₀) (record { k = 0; at = 5; at-fits = lit< tt; zs = rows; ok = fill-start list n to rows
-        (asks .0) (asks .2) }))))))))))))
+      ‵ (owns (ShrSlice (named 0) κ₀ u8 ∷ MutSlice (named 1) κ₁ T.the-row ∷ usize ∷ usize ∷ []) (
+        ref b-list o-list γ-list list,
+        (ref b-rows o-rows γ-rows rows, (n, (to, tt))),
+      ) at) ∷ []) ∵ enter ! (𝓣 .C) (𝓣 .Λ) code.function
+      (sliceVal (b-list, o-list) (length list) ∷ sliceVal (b-rows, o-rows) (length rows) ∷ vint w64 n ∷ vint w64 to ∷ []) _ $
+      alloc1 ! (λ l₀. alloc1 ! (λ l₁. alloc1 ! (λ l₂. alloc1 ! (λ l₃. alloc1 ! (λ l₄. alloc1 ! (λ l₅. alloc1 ! (λ l₆. alloc1 ! (λ l₇.
+      alloc1 ! (λ l₈. alloc1 ! (λ l₉. alloc1 ! (λ l₁₀. alloc0 ! $ params1 ! $
+      pass1 ! (init ! 18 refl (tt, (tt, (record { fits = room-list .0 }, tt)))) $
+      pass1 ! (init ! 16 refl (tt, (tt, (record { fits = room-rows .0 }, tt)))) $ pass1 ! (init ! 14 refl (tt, record { fits = fits-n })) $
+      pass1 ! (init ! 12 refl (tt, record { fits = fits-to })) $ pass0 ! $
+      move ! (22 ∷ []) $ split ! $ move ! (1 ∷ []) $ split ! $ move ! (1 ∷ []) $ drop ! $ move ! (24 ∷ []) $ fsplit ! $ move ! (1 ∷ []) $
+      fsplit ! $ move ! (1 ∷ []) $ fsplit ! $ drop ! $ fsplit ! $ drop ! $ drop ! $
+      assigns ! (of-opd ! (lit ! tt)) (from ! (stop !)) (init ! 14 refl (tt, record { fits = lit< tt })) $
+      assigns ! (of-opd ! (lit ! tt)) (from ! (stop !)) (init ! 12 refl (tt, record { fits = lit< tt })) $
+      move ! (0 ∷ 2 ∷ []) $ own-opens ! tt T.the-row b-rows o-rows rows $ first ! $ blocks ! $
+      loops ! 𝓣 Nearer Nearer-wf (At 𝓣 fm record-at-known place-after-known l₀ l₁ l₂ l₃ l₄ l₅ l₆ l₇ l₈ l₉ l₁₀) (turns 𝓣 fm record-at-known
+      place-after-known l₀ l₁ l₂ l₃ l₄ l₅ l₆ l₇ l₈ l₉ l₁₀) (record {
+        k = 0;
+        at = 5;
+        at-fits = lit< tt;
+        zs = rows;
+        ok = fill-start list n to rows
+            (asks .0) (asks .2);
+      }))))))))))))
 
 module _ {M : Type 1} (𝓤 : URA M) (H : Heap 𝓤) (A : Atoms 𝓤) (W : Given 𝓤 H A) (mem : Memory → SProp 𝓤) (run : Routine → Fun 𝓤) where
   walks : (𝓣 : Tables 𝓤 H) → Triple 𝓤 (𝓣 .C #indexing·record-at) (record-at-called 𝓤 H A mem run) →
       Triple 𝓤 (𝓣 .C #indexing·place-after) (place-after-called 𝓤 H A mem run) → Walks 𝓤 H A f.ended stayed
       (WpFn 𝓤 H (𝓣 .C) (𝓣 .Λ) code.function) (f.clauses 𝓤 H A mem run)
   walks 𝓣 record-at-known place-after-known =
-      walked 𝓤 H A f.ended stayed (f.clauses 𝓤 H A mem run) (WpFn 𝓤 H (𝓣 .C) (𝓣 .Λ) code.function) (λ κs. (slice-vals, (slice-vals, (λ z.
-          vint w64 z ∷ [], (λ z. vint w64 z ∷ [], tt)))))
+      walked 𝓤 H A f.ended stayed (f.clauses 𝓤 H A mem run) (WpFn 𝓤 H (𝓣 .C) (𝓣 .Λ) code.function) (λ κs. (
+        slice-vals,
+        (
+          slice-vals,
+          (
+            λ z.
+                vint w64 z ∷ [],
+            (λ z. vint w64 z ∷ [], tt),
+          ),
+        ),
+      ))
       (λ κs. (shr-slice-tells (named 0) (κs .0) u8, (mut-slice-tells (named 1) (κs .1 .0) T.the-row, ((word w64) .tells, ((word w64) .tells, tt)))))
       (λ κs qs bounds a g are. needs 𝓤 ((a .1 .1 .0 ≤ a .1 .1 .1 .0) × (a .1 .1 .1 .0 ≤ length (a .1 .0 .now)) × (0 < a .1 .1 .0 →
-          Sound (a .0 .now) (a .1 .1 .0))) _ (λ asks. walk 𝓤 H A W mem run (κs .0) (κs .1 .0) (qs .0) (qs .1 .0) (a .0 .ptr .0) (a .0 .ptr .1) (a .0
-          .name) (a .0 .now) (a .1 .0 .ptr .0) (a .1 .0 .ptr .1) (a .1 .0 .name) (a .1 .0 .now) (a .1 .1 .0) (a .1 .1 .1 .0) (are .0 .0 .1) (are .1
-          .0 .0 .1) (are .1 .1 .0 .1) (are .1 .1 .1 .0 .1) asks 𝓣 (fmOf 𝓤 H (W .laws) 𝓣) record-at-known place-after-known))
+      Sound (a .0 .now) (a .1 .1 .0))) _ (λ asks. walk 𝓤 H A W mem run (κs .0) (κs .1 .0) (qs .0) (qs .1 .0) (a .0 .ptr .0) (a .0 .ptr .1) (a .0
+      .name) (a .0 .now) (a .1 .0 .ptr .0) (a .1 .0 .ptr .1) (a .1 .0 .name) (a .1 .0 .now) (a .1 .1 .0) (a .1 .1 .1 .0) (are .0 .0 .1) (are .1
+      .0 .0 .1) (are .1 .1 .0 .1) (are .1 .1 .1 .0 .1) asks 𝓣 (fmOf 𝓤 H (W .laws) 𝓣) record-at-known place-after-known))
 
 meets : {M : Type 1} (𝓤 : URA M) (H : Heap 𝓤) (A : Atoms 𝓤) → Given 𝓤 H A → (mem : Memory → SProp 𝓤) (run : Routine → Fun 𝓤) (𝓣 : Tables 𝓤 H) →
     Triple 𝓤 (𝓣 .C #indexing·record-at) (record-at-called 𝓤 H A mem run) → Triple 𝓤 (𝓣 .C #indexing·place-after) (place-after-called 𝓤 H A mem run)
     → Meets 𝓤 H A f.signature (WpFn 𝓤 H (𝓣 .C) (𝓣 .Λ) code.function) (f.spec 𝓤 H A mem run)
 meets 𝓤 H A W mem run 𝓣 record-at-known place-after-known =
-    walk-meets 𝓤 H A f.ended stayed W (goes-none-slice 𝓤 H A W 2 (0 ∷ []) tt (slot (λ _.
-        u8)) yes, (goes-slice 𝓤 H A W 2 1 tt (slot (λ _. T.the-row)), (goes-none 𝓤 H A W 2 (λ _. usize) yes (λ κs x f.
-        refl), (goes-none 𝓤 H A W 2 (λ _. usize) yes (λ κs x f. refl), tt)))) (f.clauses 𝓤 H A mem run)
+    walk-meets 𝓤 H A f.ended stayed W (
+      goes-none-slice 𝓤 H A W 2 (0 ∷ []) tt (slot (λ _.
+          u8)) yes,
+      (
+        goes-slice 𝓤 H A W 2 1 tt (slot (λ _. T.the-row)),
+        (
+          goes-none 𝓤 H A W 2 (λ _. usize) yes (λ κs x f.
+              refl),
+          (goes-none 𝓤 H A W 2 (λ _. usize) yes (λ κs x f. refl), tt),
+        ),
+      ),
+    ) (f.clauses 𝓤 H A mem run)
     (WpFn 𝓤 H (𝓣 .C) (𝓣 .Λ) code.function) (WpFn-mono 𝓤 H (W .laws) 𝓣 code.function) (walks 𝓤 H A W mem run 𝓣 record-at-known place-after-known)
 
 pub fill-spec : {M : Type 1} → stated.statement M
@@ -263,6 +348,6 @@ fill-spec 𝓤 H 𝓜 𝓖 𝓡 =
     (tables 𝓤 H 𝓜 𝓡 code.env .C) (tables 𝓤 H 𝓜 𝓡 code.env .Λ) #indexing·fill code.function (code.unfolded 𝓤 H 𝓜 𝓡)
     (meets 𝓤 H (𝓖 .A) (givenOf 𝓤 H 𝓜 𝓖) (𝓜 .mem) (𝓡 .run) (tablesOf 𝓤 H 𝓜 (tables 𝓤 H 𝓜 𝓡 code.env))
     (cited 𝓤 H (record-at-called 𝓤 H (𝓖 .A) (𝓜 .mem) (𝓡 .run)) 𝓜 𝓡 code.env #indexing·record-at record-at-def.routine code.calls-indexing·record-at
-        (record-at-thm.met 𝓤 H 𝓜 𝓖 𝓡))
+    (record-at-thm.met 𝓤 H 𝓜 𝓖 𝓡))
     (cited 𝓤 H (place-after-called 𝓤 H (𝓖 .A) (𝓜 .mem) (𝓡 .run)) 𝓜 𝓡 code.env #indexing·place-after place-after-def.routine
-        code.calls-indexing·place-after (place-after-thm.met 𝓤 H 𝓜 𝓖 𝓡)))
+    code.calls-indexing·place-after (place-after-thm.met 𝓤 H 𝓜 𝓖 𝓡)))

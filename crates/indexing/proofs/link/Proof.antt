@@ -168,8 +168,20 @@ module _ {M : Type 1} (𝓤 : URA M) (H : Heap 𝓤) (A : Atoms 𝓤) (W : Given
         -- `chain_of` is called
         nothing ! $ nothing ! $ with-data ! (word w64) n (refl, fits-n) $ with-data ! contact (getD (i .zs) (i .k) noContact) is $
         move ! (1 ∷ 0 ∷ []) $ join ! $ knows ! (0 < n) (omega (arith, ltb→lt (i .k) n less)) $ move ! (1 ∷ 0 ∷ []) $ join ! $
-        calls-on ! fm chain-of.ended (chain-of.clauses 𝓤 H A mem run) chain-of-known ((tt, tt, tt, (getD (i .zs) (i .k) noContact, (n, tt)), (contact
-        .val (getD (i .zs) (i .k) noContact) ∷ [], (vint w64 n ∷ [], tt))), tt) refl (and-then ! (load ! (from ! (stop !)) (look ! 25 refl))
+        calls-on ! fm chain-of.ended (chain-of.clauses 𝓤 H A mem run) chain-of-known (
+          (
+            tt,
+            tt,
+            tt,
+            (getD (i .zs) (i .k) noContact, (n, tt)),
+            (
+              contact
+                  .val (getD (i .zs) (i .k) noContact) ∷ [],
+              (vint w64 n ∷ [], tt),
+            ),
+          ),
+          tt,
+        ) refl (and-then ! (load ! (from ! (stop !)) (look ! 25 refl))
         (and-then ! (load ! (from ! (stop !)) (look ! 29 refl)) (no-more !))) (λ u b ws.
         unmoved ! $ unmoved ! $ drop ! $ heard ! (b ≡ getD (numbersOf (getD (i .zs) (i .k) noContact)) 2 0 % n) (λ eb.
         use1 W (‵ ftrue) (id⊢ 𝓤 _) $ drop ! $ lands-as ! (word w64) b (λ is₁.
@@ -189,8 +201,23 @@ module _ {M : Type 1} (𝓤 : URA M) (H : Heap 𝓤) (A : Atoms 𝓤) (W : Given
         -- `in_front` is called
         nothing ! $ nothing ! $ with-data ! contact (getD (i .zs) b noContact) is₂ $ with-data ! contact (getD (i .zs) (i .k) noContact) is $
         move ! (1 ∷ 0 ∷ []) $ join ! $ nothing ! $ move ! (1 ∷ 0 ∷ []) $ join ! $
-        calls-on ! fm in-front.ended (in-front.clauses 𝓤 H A mem run) in-front-known ((tt, tt, tt, (getD (i .zs) (i .k) noContact, (getD (i .zs) b
-        noContact, tt)), (contact .val (getD (i .zs) (i .k) noContact) ∷ [], (contact .val (getD (i .zs) b noContact) ∷ [], tt))), tt) refl
+        calls-on ! fm in-front.ended (in-front.clauses 𝓤 H A mem run) in-front-known (
+          (
+            tt,
+            tt,
+            tt,
+            (
+              getD (i .zs) (i .k) noContact,
+              (
+                getD (i .zs) b
+                    noContact,
+                tt,
+              ),
+            ),
+            (contact .val (getD (i .zs) (i .k) noContact) ∷ [], (contact .val (getD (i .zs) b noContact) ∷ [], tt)),
+          ),
+          tt,
+        ) refl
         (and-then ! (load ! (from ! (stop !)) (look ! 25 refl)) (and-then ! (load ! (from ! (stop !)) (look ! 11 refl)) (no-more !))) (λ u x ws₁.
         unmoved ! $ unmoved ! $ drop ! $ heard ! (x ≡ contactOf (withNext (numbersOf (getD (i .zs) (i .k) noContact)) (getD (numbersOf (getD (i .zs)
         b noContact)) 0 0))) (λ ex.
@@ -223,8 +250,23 @@ module _ {M : Type 1} (𝓤 : URA M) (H : Heap 𝓤) (A : Atoms 𝓤) (W : Given
         nothing ! $ nothing ! $ with-data ! (word w64) (i .k) (refl, k-fits i) $ with-data ! contact (getD (set (i .zs) (i .k) x) b noContact) is₄ $
         move ! (1 ∷ 0 ∷ []) $ join ! $ knows ! ((i .k) + 1 < 4294967296) (omega (arith, ltb→lt (i .k) n less, asks .1)) $ move ! (1 ∷ 0 ∷ []) $
         join ! $
-        calls-on ! fm begun-with.ended (begun-with.clauses 𝓤 H A mem run) begun-with-known ((tt, tt, tt, (getD (set (i .zs) (i .k) x) b noContact, (i
-        .k, tt)), (contact .val (getD (set (i .zs) (i .k) x) b noContact) ∷ [], (vint w64 (i .k) ∷ [], tt))), tt) refl (and-then ! (load !
+        calls-on ! fm begun-with.ended (begun-with.clauses 𝓤 H A mem run) begun-with-known (
+          (
+            tt,
+            tt,
+            tt,
+            (
+              getD (set (i .zs) (i .k) x) b noContact,
+              (
+                i
+                    .k,
+                tt,
+              ),
+            ),
+            (contact .val (getD (set (i .zs) (i .k) x) b noContact) ∷ [], (vint w64 (i .k) ∷ [], tt)),
+          ),
+          tt,
+        ) refl (and-then ! (load !
         (from ! (stop !)) (look ! 11 refl)) (and-then ! (load ! (from ! (stop !)) (look ! 27 refl)) (no-more !))) (λ u y ws₂.
         unmoved ! $ unmoved ! $ drop ! $ heard ! (y ≡ contactOf (withHead (numbersOf (getD (set (i .zs) (i .k) x) b noContact)) ((i .k) + 1))) (λ ey.
         use1 W (‵ ftrue) (id⊢ 𝓤 _) $ drop ! $ lands-as ! contact y (λ is₅. land ! (from ! (stop !)) (store ! 14 refl (of-type W contact y is₅ .0)) $
@@ -245,8 +287,12 @@ module _ {M : Type 1} (𝓤 : URA M) (H : Heap 𝓤) (A : Atoms 𝓤) (W : Given
         (store ! 26 refl (tt, record { fits = more i less })) $
         forget ! 24 refl $ forget ! 22 refl $ forget ! 20 refl $ forget ! 18 refl $ forget ! 16 refl $ forget ! 14 refl $ forget ! 12 refl $
         forget ! 10 refl $ forget ! 8 refl $ forget ! 6 refl $ forget ! 4 refl $ forget ! 2 refl $
-        again ! Nearer At i (record { k = i .k + 1; zs = set (set (i .zs) (i .k) x) b y; ok = linking-on n rows (asks .0) (i .k) (i .zs) (i .ok)
-        (ltb→lt (i .k) n less) b eb x y ex ey }) (omega (arith, ltb→lt (i .k) n less)))))))))))))))))
+        again ! Nearer At i (record {
+          k = i .k + 1;
+          zs = set (set (i .zs) (i .k) x) b y;
+          ok = linking-on n rows (asks .0) (i .k) (i .zs) (i .ok)
+              (ltb→lt (i .k) n less) b eb x y ex ey;
+        }) (omega (arith, ltb→lt (i .k) n less)))))))))))))))))
         (λ over. jumps ! $ exec ! C Λ E pieces.t-3 (atRet E Post) $
         own-closes ! tt T.the-row b-rows o-rows (length rows) rows (i .zs) (i .ok .same) (i .ok .same) room-rows $
         assigns ! (of-opd ! (unit-lit !)) (from ! (stop !)) (init ! 32 refl (tt, tt)) $
@@ -256,30 +302,35 @@ module _ {M : Type 1} (𝓤 : URA M) (H : Heap 𝓤) (A : Atoms 𝓤) (W : Given
         ∷ 4 ∷ 5 ∷ 2 ∷ 3 ∷ []) $ free1 ! $ free1 ! $ free1 ! $ free1 ! $ free1 ! $ free1 ! $ free1 ! $ free1 ! $ free1 ! $ free1 ! $ free1 ! $
         free1 ! $ free1 ! $ free1 ! $ free1 ! $ free1 ! $ free0 ! $
         -- what it promises, the tokens and the parameters
-        keep ! (1 ∷ 0 ∷ []) $ suffices ! _ (ends-at 𝓤 H A f.ended stayed (f.clauses 𝓤 H A mem run) W bound vunit tt (i .zs,
-        (tt, tt)) ((i .ok .same), (tt, tt))) $ says ! (linking-end n rows (asks .0) (i .k) (i .zs) (i .ok) (nltb→le (i .k) n over)) $
+        keep ! (1 ∷ 0 ∷ []) $ suffices ! _ (ends-at 𝓤 H A f.ended stayed (f.clauses 𝓤 H A mem run) W bound vunit tt (
+          i .zs,
+          (tt, tt),
+        ) ((i .ok .same), (tt, tt))) $ says ! (linking-end n rows (asks .0) (i .k) (i .zs) (i .ok) (nltb→le (i .k) n over)) $
         nothing ! $ move ! (1 ∷ 0 ∷ []) $ join ! $ frame ! $ nothing ! $ with-data ! (word w64) n (refl, fits-n) $ move ! (1 ∷ 0 ∷ []) $ fjoin ! $
         frame ! $ owned ! unit (Is unit) (none .makes 𝓤 H A W) tt _ refl $ done !)
 
   walk : (𝓣 : Tables 𝓤 H) → FmC 𝓤 H (W .laws) (𝓣 .C) → Triple 𝓤 (𝓣 .C #indexing·chain-of) (chain-of-called 𝓤 H A mem run) →
       Triple 𝓤 (𝓣 .C #indexing·in-front) (in-front-called 𝓤 H A mem run) → Triple 𝓤 (𝓣 .C #indexing·begun-with) (begun-with-called 𝓤 H A mem run)
       → ent 𝓤 (onEntry 𝓤 H A f.signature (κ₀, tt) (q₀, tt) (ref b-rows o-rows γ-rows rows, (n, tt)) at)
-          (WpFn 𝓤 H (𝓣 .C) (𝓣 .Λ) code.function (sliceVal (b-rows, o-rows) (length rows) ∷ vint w64 n ∷ []) Post)
+      (WpFn 𝓤 H (𝓣 .C) (𝓣 .Λ) code.function (sliceVal (b-rows, o-rows) (length rows) ∷ vint w64 n ∷ []) Post)
   walk 𝓣 fm chain-of-known in-front-known begun-with-known =
       qed W ((‵ (flft κ₀ q₀) ⊛ ‵ ftrue) ∷ ‵ (owns (MutSlice (named 0) κ₀ T.the-row ∷ usize ∷ [])
-          (ref b-rows o-rows γ-rows rows, (n, tt)) at) ∷ []) ∵ enter ! (𝓣 .C) (𝓣 .Λ) code.function
-          (sliceVal (b-rows, o-rows) (length rows) ∷ vint w64 n ∷ []) _ $
-        alloc1 ! (λ l₀. alloc1 ! (λ l₁. alloc1 ! (λ l₂. alloc1 ! (λ l₃. alloc1 ! (λ l₄. alloc1 ! (λ l₅. alloc1 ! (λ l₆. alloc1 ! (λ l₇.
-        alloc1 ! (λ l₈. alloc1 ! (λ l₉. alloc1 ! (λ l₁₀. alloc1 ! (λ l₁₁. alloc1 ! (λ l₁₂. alloc1 ! (λ l₁₃. alloc1 ! (λ l₁₄. alloc1 ! (λ l₁₅.
-        alloc0 ! $ params1 ! $
-        pass1 ! (init ! 28 refl (tt, (tt, (record { fits = room-rows .0 }, tt)))) $ pass1 ! (init ! 26 refl (tt, record { fits = fits-n })) $
-        pass0 ! $
-        move ! (32 ∷ []) $ split ! $ move ! (1 ∷ []) $ drop ! $ move ! (33 ∷ []) $ fsplit ! $ move ! (1 ∷ []) $ fsplit ! $ drop ! $ drop ! $
-        assigns ! (of-opd ! (lit ! tt)) (from ! (stop !)) (init ! 26 refl (tt, record { fits = lit< tt })) $
-        own-opens ! tt T.the-row b-rows o-rows rows $ first ! $ blocks ! $
-        loops ! 𝓣 Nearer Nearer-wf (At 𝓣 fm chain-of-known in-front-known begun-with-known l₀ l₁ l₂ l₃ l₄ l₅ l₆ l₇ l₈ l₉ l₁₀ l₁₁ l₁₂ l₁₃ l₁₄ l₁₅)
-        (turns 𝓣 fm chain-of-known in-front-known begun-with-known l₀ l₁ l₂ l₃ l₄ l₅ l₆ l₇ l₈ l₉ l₁₀ l₁₁ l₁₂ l₁₃ l₁₄ l₁₅) (record { k = 0; zs = rows;
-        ok = linking-start n rows (asks .0) })))))))))))))))))
+      (ref b-rows o-rows γ-rows rows, (n, tt)) at) ∷ []) ∵ enter ! (𝓣 .C) (𝓣 .Λ) code.function
+      (sliceVal (b-rows, o-rows) (length rows) ∷ vint w64 n ∷ []) _ $
+      alloc1 ! (λ l₀. alloc1 ! (λ l₁. alloc1 ! (λ l₂. alloc1 ! (λ l₃. alloc1 ! (λ l₄. alloc1 ! (λ l₅. alloc1 ! (λ l₆. alloc1 ! (λ l₇.
+      alloc1 ! (λ l₈. alloc1 ! (λ l₉. alloc1 ! (λ l₁₀. alloc1 ! (λ l₁₁. alloc1 ! (λ l₁₂. alloc1 ! (λ l₁₃. alloc1 ! (λ l₁₄. alloc1 ! (λ l₁₅.
+      alloc0 ! $ params1 ! $
+      pass1 ! (init ! 28 refl (tt, (tt, (record { fits = room-rows .0 }, tt)))) $ pass1 ! (init ! 26 refl (tt, record { fits = fits-n })) $
+      pass0 ! $
+      move ! (32 ∷ []) $ split ! $ move ! (1 ∷ []) $ drop ! $ move ! (33 ∷ []) $ fsplit ! $ move ! (1 ∷ []) $ fsplit ! $ drop ! $ drop ! $
+      assigns ! (of-opd ! (lit ! tt)) (from ! (stop !)) (init ! 26 refl (tt, record { fits = lit< tt })) $
+      own-opens ! tt T.the-row b-rows o-rows rows $ first ! $ blocks ! $
+      loops ! 𝓣 Nearer Nearer-wf (At 𝓣 fm chain-of-known in-front-known begun-with-known l₀ l₁ l₂ l₃ l₄ l₅ l₆ l₇ l₈ l₉ l₁₀ l₁₁ l₁₂ l₁₃ l₁₄ l₁₅)
+      (turns 𝓣 fm chain-of-known in-front-known begun-with-known l₀ l₁ l₂ l₃ l₄ l₅ l₆ l₇ l₈ l₉ l₁₀ l₁₁ l₁₂ l₁₃ l₁₄ l₁₅) (record {
+        k = 0;
+        zs = rows;
+        ok = linking-start n rows (asks .0);
+      })))))))))))))))))
 
 module _ {M : Type 1} (𝓤 : URA M) (H : Heap 𝓤) (A : Atoms 𝓤) (W : Given 𝓤 H A) (mem : Memory → SProp 𝓤) (run : Routine → Fun 𝓤) where
   walks : (𝓣 : Tables 𝓤 H) → Triple 𝓤 (𝓣 .C #indexing·chain-of) (chain-of-called 𝓤 H A mem run) →
@@ -289,18 +340,24 @@ module _ {M : Type 1} (𝓤 : URA M) (H : Heap 𝓤) (A : Atoms 𝓤) (W : Given
       walked 𝓤 H A f.ended stayed (f.clauses 𝓤 H A mem run) (WpFn 𝓤 H (𝓣 .C) (𝓣 .Λ) code.function) (λ κs. (slice-vals, (λ z. vint w64 z ∷ [], tt)))
       (λ κs. (mut-slice-tells (named 0) (κs .0) T.the-row, ((word w64) .tells, tt)))
       (λ κs qs bounds a g are. needs 𝓤 ((a .1 .0 ≤ length (a .0 .now)) × (a .1 .0 < 4294967296)) _ (λ asks.
-          walk 𝓤 H A W mem run (κs .0) (qs .0) (a .0 .ptr .0) (a .0 .ptr .1) (a .0 .name) (a .0 .now) (a .1 .0) (are .0 .0 .1) (are .1 .0 .1) asks 𝓣
-          (fmOf 𝓤 H (W .laws) 𝓣) chain-of-known in-front-known begun-with-known))
+      walk 𝓤 H A W mem run (κs .0) (qs .0) (a .0 .ptr .0) (a .0 .ptr .1) (a .0 .name) (a .0 .now) (a .1 .0) (are .0 .0 .1) (are .1 .0 .1) asks 𝓣
+      (fmOf 𝓤 H (W .laws) 𝓣) chain-of-known in-front-known begun-with-known))
 
 meets : {M : Type 1} (𝓤 : URA M) (H : Heap 𝓤) (A : Atoms 𝓤) → Given 𝓤 H A → (mem : Memory → SProp 𝓤) (run : Routine → Fun 𝓤) (𝓣 : Tables 𝓤 H) →
     Triple 𝓤 (𝓣 .C #indexing·chain-of) (chain-of-called 𝓤 H A mem run) → Triple 𝓤 (𝓣 .C #indexing·in-front) (in-front-called 𝓤 H A mem run) →
     Triple 𝓤 (𝓣 .C #indexing·begun-with) (begun-with-called 𝓤 H A mem run)
     → Meets 𝓤 H A f.signature (WpFn 𝓤 H (𝓣 .C) (𝓣 .Λ) code.function) (f.spec 𝓤 H A mem run)
 meets 𝓤 H A W mem run 𝓣 chain-of-known in-front-known begun-with-known =
-    walk-meets 𝓤 H A f.ended stayed W (goes-slice 𝓤 H A W 1 0 tt (slot (λ _. T.the-row)), (goes-none 𝓤 H A W 1 (λ _. usize) yes (λ κs x f.
-        refl), tt)) (f.clauses 𝓤 H A mem run)
+    walk-meets 𝓤 H A f.ended stayed W (
+      goes-slice 𝓤 H A W 1 0 tt (slot (λ _. T.the-row)),
+      (
+        goes-none 𝓤 H A W 1 (λ _. usize) yes (λ κs x f.
+            refl),
+        tt,
+      ),
+    ) (f.clauses 𝓤 H A mem run)
     (WpFn 𝓤 H (𝓣 .C) (𝓣 .Λ) code.function) (WpFn-mono 𝓤 H (W .laws) 𝓣 code.function) (walks 𝓤 H A W mem run 𝓣 chain-of-known in-front-known
-        begun-with-known)
+    begun-with-known)
 
 pub link-spec : {M : Type 1} → stated.statement M
 unfolding code.routine tablesOf
@@ -309,8 +366,8 @@ link-spec 𝓤 H 𝓜 𝓖 𝓡 =
     (tables 𝓤 H 𝓜 𝓡 code.env .C) (tables 𝓤 H 𝓜 𝓡 code.env .Λ) #indexing·link code.function (code.unfolded 𝓤 H 𝓜 𝓡)
     (meets 𝓤 H (𝓖 .A) (givenOf 𝓤 H 𝓜 𝓖) (𝓜 .mem) (𝓡 .run) (tablesOf 𝓤 H 𝓜 (tables 𝓤 H 𝓜 𝓡 code.env))
     (cited 𝓤 H (chain-of-called 𝓤 H (𝓖 .A) (𝓜 .mem) (𝓡 .run)) 𝓜 𝓡 code.env #indexing·chain-of chain-of-def.routine code.calls-indexing·chain-of
-        (chain-of-thm.met 𝓤 H 𝓜 𝓖 𝓡))
+    (chain-of-thm.met 𝓤 H 𝓜 𝓖 𝓡))
     (cited 𝓤 H (in-front-called 𝓤 H (𝓖 .A) (𝓜 .mem) (𝓡 .run)) 𝓜 𝓡 code.env #indexing·in-front in-front-def.routine code.calls-indexing·in-front
-        (in-front-thm.met 𝓤 H 𝓜 𝓖 𝓡))
+    (in-front-thm.met 𝓤 H 𝓜 𝓖 𝓡))
     (cited 𝓤 H (begun-with-called 𝓤 H (𝓖 .A) (𝓜 .mem) (𝓡 .run)) 𝓜 𝓡 code.env #indexing·begun-with begun-with-def.routine
-        code.calls-indexing·begun-with (begun-with-thm.met 𝓤 H 𝓜 𝓖 𝓡)))
+    code.calls-indexing·begun-with (begun-with-thm.met 𝓤 H 𝓜 𝓖 𝓡)))

@@ -80,9 +80,21 @@ use Rattle.search.proofs.find.Code as code
 use Rattle.search.proofs.find.Code.Mir as pieces
 
 abbrev stayed : Stays (f.ended .signature .params) (f.ended .kept)
-stayed = (stay-none-slice (0 ∷ []) tt (slot (λ _. u8)) yes, (stay-none-slice (1 ∷ []) tt (slot (λ _.
-    u8)) yes, (stay-none-slice (2 ∷ []) tt (slot (λ _. T.the-row)) yes, (stay-none (λ _.
-    usize) yes, (stay-none (λ _. Wa.the-row) yes, (stay-none (λ _. u64) yes, tt))))))
+stayed = (
+  stay-none-slice (0 ∷ []) tt (slot (λ _. u8)) yes,
+  (
+    stay-none-slice (1 ∷ []) tt (slot (λ _.
+        u8)) yes,
+    (
+      stay-none-slice (2 ∷ []) tt (slot (λ _. T.the-row)) yes,
+      (
+        stay-none (λ _.
+            usize) yes,
+        (stay-none (λ _. Wa.the-row) yes, (stay-none (λ _. u64) yes, tt)),
+      ),
+    ),
+  ),
+)
 
 abbrev ty : ℕ → Ty
 ty = kind (code.function .locals)
@@ -110,14 +122,33 @@ module _ {M : Type 1} (𝓤 : URA M) (H : Heap 𝓤) (A : Atoms 𝓤) (W : Given
     Fun 𝓤) (κ₀ κ₁ κ₂ : Lft) (q₀ q₁ q₂ : Share) (b-text o-text : ℕ) (γ-text : GName) (text : List ℕ) (b-list o-list : ℕ) (γ-list : GName) (list : List
     ℕ) (b-rows o-rows : ℕ) (γ-rows : GName) (rows : List Contact) (n : ℕ) (wanted : Wanted) (limit : ℕ)
     (room-text : Room u8 (length text)) (room-list : Room u8 (length list)) (room-rows : Room T.the-row (length rows)) (fits-n : n < 2 ^ 64)
-        (is-wanted : Is Wa.the-row wanted (wanting .val wanted ∷ [])) (fits-limit : limit < 2 ^ 64) (asks : Indexed list n (plain rows)) where
+    (is-wanted : Is Wa.the-row wanted (wanting .val wanted ∷ [])) (fits-limit : limit < 2 ^ 64) (asks : Indexed list n (plain rows)) where
   abbrev at : Vals f.signature (κ₀, (κ₁, (κ₂, tt)))
-  at = (sliceVal (b-text, o-text) (length text) ∷ [], (sliceVal (b-list, o-list) (length list) ∷ [],
-      (sliceVal (b-rows, o-rows) (length rows) ∷ [], (vint w64 n ∷ [], (wanting .val wanted ∷ [], (vint w64 limit ∷ [], tt))))))
+  at = (
+    sliceVal (b-text, o-text) (length text) ∷ [],
+    (
+      sliceVal (b-list, o-list) (length list) ∷ [],
+      (sliceVal (b-rows, o-rows) (length rows) ∷ [], (vint w64 n ∷ [], (wanting .val wanted ∷ [], (vint w64 limit ∷ [], tt)))),
+    ),
+  )
 
   abbrev bound : walkOf 𝓤 H A f.ended stayed (f.clauses 𝓤 H A mem run) .Ghost
-  bound = (((κ₀, (κ₁, (κ₂, tt))), (q₀, (q₁, (q₂, tt))), tt, (ref b-text o-text γ-text text, (ref b-list o-list γ-list list,
-      (ref b-rows o-rows γ-rows rows, (n, (wanted, (limit, tt)))))), at), tt)
+  bound = (
+    (
+      (κ₀, (κ₁, (κ₂, tt))),
+      (q₀, (q₁, (q₂, tt))),
+      tt,
+      (
+        ref b-text o-text γ-text text,
+        (
+          ref b-list o-list γ-list list,
+          (ref b-rows o-rows γ-rows rows, (n, (wanted, (limit, tt)))),
+        ),
+      ),
+      at,
+    ),
+    tt,
+  )
 
   abbrev Post : Val → SProp 𝓤
   Post = walkOf 𝓤 H A f.ended stayed (f.clauses 𝓤 H A mem run) .post bound
@@ -187,9 +218,11 @@ module _ {M : Type 1} (𝓤 : URA M) (H : Heap 𝓤) (A : Atoms 𝓤) (W : Given
           assigns ! (bin ! (load ! (from ! (stop !)) (look ! 28 refl)) (lit ! tt) (omega (arith, there (i .at) on))) (from ! (stop !))
           (init ! 26 refl (tt, record { fits = omega (arith, i .at-fits) })) $
           assigns ! (bin ! (load ! (from ! (stop !)) (look ! 26 refl)) (lit ! tt) (scaled-fits ((i .at) - 1) (length rows) 56 (contact-in list rows
-          text wanted limit n code asks ec some (i .at) (i .best) (i .ok) (there (i .at) on)) (room-rows .1))) (from ! (stop !)) (init ! 10 refl
-          (tt, scaled-fits ((i .at) - 1) (length rows) 56 (contact-in list rows text wanted limit n code asks ec some (i .at) (i .best) (i .ok)
-          (there (i .at) on)) (room-rows .1))) $
+          text wanted limit n code asks ec some (i .at) (i .best) (i .ok) (there (i .at) on)) (room-rows .1))) (from ! (stop !)) (init ! 10 refl (
+            tt,
+            scaled-fits ((i .at) - 1) (length rows) 56 (contact-in list rows text wanted limit n code asks ec some (i .at) (i .best) (i .ok)
+                (there (i .at) on)) (room-rows .1),
+          )) $
           assigns ! (bin ! (load ! (from ! (fld ! refl (stop !))) (look-in ! 42 (sub ! 0 refl (whole !)))) (load !
           (from ! (stop !)) (look ! 10 refl)) tt) (from ! (stop !)) (init ! 8 refl (tt, tt)) $
           rewrite ! 8 (λ (p : ℕ). ‵ (fat fullShare (ty 20) l₂₀ 0 (vptr b-rows p))) (sym (place-is 56 o-rows ((i .at) - 1))) refl $
@@ -203,8 +236,16 @@ module _ {M : Type 1} (𝓤 : URA M) (H : Heap 𝓤) (A : Atoms 𝓤) (W : Given
           -- `numbers_of` is called
           nothing ! $ nothing ! $ with-data ! contact (getD rows ((i .at) - 1) noContact) is₂ $ move ! (1 ∷ 0 ∷ []) $ join ! $ nothing ! $
           move ! (1 ∷ 0 ∷ []) $ join ! $
-          calls-on ! fm numbers-of.ended (numbers-of.clauses 𝓤 H A mem run) numbers-of-known ((tt, tt, tt, (getD rows ((i .at) - 1) noContact, tt),
-          (contact .val (getD rows ((i .at) - 1) noContact) ∷ [], tt)), tt) refl (and-then ! (load !
+          calls-on ! fm numbers-of.ended (numbers-of.clauses 𝓤 H A mem run) numbers-of-known (
+            (
+              tt,
+              tt,
+              tt,
+              (getD rows ((i .at) - 1) noContact, tt),
+              (contact .val (getD rows ((i .at) - 1) noContact) ∷ [], tt),
+            ),
+            tt,
+          ) refl (and-then ! (load !
           (from ! (stop !)) (look ! 7 refl)) (no-more !)) (λ u row₁ ws₄.
           unmoved ! $ drop ! $ heard ! (row₁ ≡ numbersOf (getD rows ((i .at) - 1) noContact)) (λ er.
           use1 W (‵ ftrue) (id⊢ 𝓤 _) $ drop ! $ lands-as ! (array (word w32) 14) row₁ (λ is₃.
@@ -216,11 +257,41 @@ module _ {M : Type 1} (𝓤 : URA M) (H : Heap 𝓤) (A : Atoms 𝓤) (W : Given
           move ! (2 ∷ 0 ∷ []) $ fjoin ! $ with-data ! (word w64) (i .at) (refl, i .at-fits) $ with-data ! (array (word w32) 14) row₁ is₃ $
           move ! (3 ∷ 0 ∷ []) $ fjoin ! $ move ! (1 ∷ 0 ∷ []) $ join ! $ knows ! (length list ≤ 16777216) (short-list list n (plain rows) asks) $
           move ! (1 ∷ 0 ∷ []) $ join ! $
-          calls-on ! fm found.ended (found.clauses 𝓤 H A mem run) found-known (((κ₁, (κ₀, tt)), (q₁, (q₀, tt)), tt,
-          (ref b-list o-list γ-list list, (row₁, (i .at, (ref b-text o-text γ-text text, (wanted, (code, (limit, (i .best, tt)))))))),
-          (sliceVal (b-list, o-list) (length list) ∷ [], ((array (word w32) 14) .val row₁ ∷ [], (vint w64 (i .at) ∷ [],
-          (sliceVal (b-text, o-text) (length text) ∷ [], (wanting .val wanted ∷ [], (vint w64 code ∷ [], (vint w64 limit ∷ [], (hitting .val (i
-          .best) ∷ [], tt))))))))), tt) refl (and-then ! (load ! (from ! (stop !)) (look ! 43 refl)) (and-then ! (load !
+          calls-on ! fm found.ended (found.clauses 𝓤 H A mem run) found-known (
+            (
+              (κ₁, (κ₀, tt)),
+              (q₁, (q₀, tt)),
+              tt,
+              (ref b-list o-list γ-list list, (row₁, (i .at, (ref b-text o-text γ-text text, (wanted, (code, (limit, (i .best, tt)))))))),
+              (
+                sliceVal (b-list, o-list) (length list) ∷ [],
+                (
+                  (array (word w32) 14) .val row₁ ∷ [],
+                  (
+                    vint w64 (i .at) ∷ [],
+                    (
+                      sliceVal (b-text, o-text) (length text) ∷ [],
+                      (
+                        wanting .val wanted ∷ [],
+                        (
+                          vint w64 code ∷ [],
+                          (
+                            vint w64 limit ∷ [],
+                            (
+                              hitting .val (i
+                                  .best) ∷ [],
+                              tt,
+                            ),
+                          ),
+                        ),
+                      ),
+                    ),
+                  ),
+                ),
+              ),
+            ),
+            tt,
+          ) refl (and-then ! (load ! (from ! (stop !)) (look ! 43 refl)) (and-then ! (load !
           (from ! (stop !)) (look ! 23 refl)) (and-then ! (load ! (from ! (stop !)) (look ! 27 refl)) (and-then ! (load !
           (from ! (stop !)) (look ! 45 refl)) (and-then ! (load ! (from ! (stop !)) (look ! 37 refl)) (and-then ! (load !
           (from ! (stop !)) (look ! 31 refl)) (and-then ! (load ! (from ! (stop !)) (look ! 35 refl)) (and-then ! (load !
@@ -233,8 +304,20 @@ module _ {M : Type 1} (𝓤 : URA M) (H : Heap 𝓤) (A : Atoms 𝓤) (W : Given
           -- `number_in` is called
           nothing ! $ nothing ! $ with-data ! (word w64) 1 (refl, lit< tt) $ with-data ! (array (word w32) 14) row₁ is₃ $ move ! (1 ∷ 0 ∷ []) $
           join ! $ knows ! (1 < 14) (lit< tt) $ move ! (1 ∷ 0 ∷ []) $ join ! $
-          calls-end ! fm number-in.ended (number-in.clauses 𝓤 H A mem run) number-in-known ((tt, tt, tt, (row₁, (1, tt)), ((array (word w32) 14) .val
-          row₁ ∷ [], (vint w64 1 ∷ [], tt))), tt) refl (and-then ! (load ! (from ! (stop !)) (look ! 25 refl)) (and-then ! (lit ! tt) (no-more !)))
+          calls-end ! fm number-in.ended (number-in.clauses 𝓤 H A mem run) number-in-known (
+            (
+              tt,
+              tt,
+              tt,
+              (row₁, (1, tt)),
+              (
+                (array (word w32) 14) .val
+                    row₁ ∷ [],
+                (vint w64 1 ∷ [], tt),
+              ),
+            ),
+            tt,
+          ) refl (and-then ! (load ! (from ! (stop !)) (look ! 25 refl)) (and-then ! (lit ! tt) (no-more !)))
           (λ u next ws₆.
           unmoved ! $ unmoved ! $ drop ! $ heard ! (next ≡ getD row₁ 1 0) (λ ex.
           use1 W (‵ ftrue) (id⊢ 𝓤 _) $ drop ! $ settles-as ! (word w64) next (λ next-is.
@@ -242,8 +325,14 @@ module _ {M : Type 1} (𝓤 : URA M) (H : Heap 𝓤) (A : Atoms 𝓤) (W : Given
           forget ! 26 refl $ forget ! 24 refl $ forget ! 12 refl $ forget ! 10 refl $ forget ! 8 refl $ forget ! 6 refl $
           keep ! (4 ∷ 5 ∷ 0 ∷ 2 ∷ 3 ∷ 1 ∷ 6 ∷ 7 ∷ 8 ∷ 9 ∷ 10 ∷ 11 ∷ 12 ∷ 13 ∷ 14 ∷ 15 ∷ 16 ∷ 17 ∷ 18 ∷ 19 ∷ 20 ∷ 21 ∷ 22 ∷ 23 ∷ 24 ∷ 25 ∷ 26 ∷ 27 ∷
           28 ∷ 29 ∷ 30 ∷ 31 ∷ 32 ∷ 33 ∷ 34 ∷ 35 ∷ 36 ∷ 37 ∷ 38 ∷ 39 ∷ 40 ∷ 41 ∷ 42 ∷ 43 ∷ 44 ∷ 45 ∷ 46 ∷ 47 ∷ 48 ∷ 49 ∷ []) $
-          again ! Nearer At i (record { at = next; at-fits = next-is .1; best = better; best-is = better-is; ok = find-next list rows text wanted
-          limit n code asks ec some (i .at) (i .best) (i .ok) (there (i .at) on) row₁ next er ex better ey }) (find-down list rows text wanted limit
+          again ! Nearer At i (record {
+            at = next;
+            at-fits = next-is .1;
+            best = better;
+            best-is = better-is;
+            ok = find-next list rows text wanted
+                limit n code asks ec some (i .at) (i .best) (i .ok) (there (i .at) on) row₁ next er ex better ey;
+          }) (find-down list rows text wanted limit
           n code asks ec some (i .at) (i .best) (i .ok) (there (i .at) on) row₁ next er ex))))))))))))
           (λ off. jumps ! $ exec ! C Λ E pieces.t-12 (atRet E Post) $
           assigns ! (of-opd ! (load ! (from ! (stop !)) (look ! 34 refl))) (from ! (stop !)) (init ! 48 refl
@@ -267,104 +356,151 @@ module _ {M : Type 1} (𝓤 : URA M) (H : Heap 𝓤) (A : Atoms 𝓤) (W : Given
   walk : (𝓣 : Tables 𝓤 H) → FmC 𝓤 H (W .laws) (𝓣 .C) → Triple 𝓤 (𝓣 .C #search·no-hit) (no-hit-called 𝓤 H A mem run) →
       Triple 𝓤 (𝓣 .C #search·code-for) (code-for-called 𝓤 H A mem run) → Triple 𝓤 (𝓣 .C #index·numbers-of) (numbers-of-called 𝓤 H A mem run) →
       Triple 𝓤 (𝓣 .C #index·number-in) (number-in-called 𝓤 H A mem run) → Triple 𝓤 (𝓣 .C #search·found) (found-called 𝓤 H A mem run)
-      → ent 𝓤 (onEntry 𝓤 H A f.signature (κ₀, (κ₁, (κ₂, tt))) (q₀, (q₁, (q₂, tt))) (ref b-text o-text γ-text text,
-          (ref b-list o-list γ-list list, (ref b-rows o-rows γ-rows rows, (n, (wanted, (limit, tt)))))) at)
-          (WpFn 𝓤 H (𝓣 .C) (𝓣 .Λ) code.function (sliceVal (b-text, o-text) (length text) ∷ sliceVal (b-list, o-list) (length list) ∷ sliceVal
-          (b-rows, o-rows) (length rows) ∷ vint w64 n ∷ wanting .val wanted ∷ vint w64 limit ∷ []) Post)
+      → ent 𝓤 (onEntry 𝓤 H A f.signature (κ₀, (κ₁, (κ₂, tt))) (q₀, (q₁, (q₂, tt))) (
+        ref b-text o-text γ-text text,
+        (ref b-list o-list γ-list list, (ref b-rows o-rows γ-rows rows, (n, (wanted, (limit, tt))))),
+      ) at)
+      (WpFn 𝓤 H (𝓣 .C) (𝓣 .Λ) code.function (sliceVal (b-text, o-text) (length text) ∷ sliceVal (b-list, o-list) (length list) ∷ sliceVal
+      (b-rows, o-rows) (length rows) ∷ vint w64 n ∷ wanting .val wanted ∷ vint w64 limit ∷ []) Post)
   walk 𝓣 fm no-hit-known code-for-known numbers-of-known number-in-known found-known =
       qed W ((‵ (flft κ₀ q₀) ⊛ ‵ (flft κ₁ q₁) ⊛ ‵ (flft κ₂ q₂) ⊛ ‵ ftrue) ∷
-          ‵ (owns (ShrSlice (named 0) κ₀ u8 ∷ ShrSlice (named 1) κ₁ u8 ∷ ShrSlice (named 2) κ₂ T.the-row ∷ usize ∷ Wa.the-row ∷ u64 ∷ [])
-          (ref b-text o-text γ-text text, (ref b-list o-list γ-list list,
-          (ref b-rows o-rows γ-rows rows, (n, (wanted, (limit, tt)))))) at) ∷ []) ∵ enter ! (𝓣 .C) (𝓣 .Λ) code.function
-          (sliceVal (b-text, o-text) (length text) ∷ sliceVal (b-list, o-list) (length list) ∷ sliceVal (b-rows, o-rows) (length rows) ∷ vint w64 n ∷
-          wanting .val wanted ∷ vint w64 limit ∷ []) _ $
-        alloc1 ! (λ l₀. alloc1 ! (λ l₁. alloc1 ! (λ l₂. alloc1 ! (λ l₃. alloc1 ! (λ l₄. alloc1 ! (λ l₅. alloc1 ! (λ l₆. alloc1 ! (λ l₇.
-        alloc1 ! (λ l₈. alloc1 ! (λ l₉. alloc1 ! (λ l₁₀. alloc1 ! (λ l₁₁. alloc1 ! (λ l₁₂. alloc1 ! (λ l₁₃. alloc1 ! (λ l₁₄. alloc1 ! (λ l₁₅.
-        alloc1 ! (λ l₁₆. alloc1 ! (λ l₁₇. alloc1 ! (λ l₁₈. alloc1 ! (λ l₁₉. alloc1 ! (λ l₂₀. alloc1 ! (λ l₂₁. alloc0 ! $ params1 ! $
-        pass1 ! (init ! 40 refl (tt, (tt, (record { fits = room-text .0 }, tt)))) $
-        pass1 ! (init ! 38 refl (tt, (tt, (record { fits = room-list .0 }, tt)))) $
-        pass1 ! (init ! 36 refl (tt, (tt, (record { fits = room-rows .0 }, tt)))) $ pass1 ! (init ! 34 refl (tt, record { fits = fits-n })) $
-        pass1 ! (init ! 32 refl (of-type W wanting wanted is-wanted .0)) $ pass1 ! (init ! 30 refl (tt, record { fits = fits-limit })) $ pass0 ! $
-        move ! (44 ∷ []) $ split ! $ move ! (1 ∷ []) $ split ! $ move ! (1 ∷ []) $ split ! $ move ! (1 ∷ []) $ drop ! $ move ! (47 ∷ []) $ fsplit ! $
-        move ! (1 ∷ []) $ fsplit ! $ move ! (1 ∷ []) $ fsplit ! $ move ! (1 ∷ []) $ fsplit ! $ drop ! $ fsplit ! $ drop ! $ fsplit ! $ drop ! $
-        drop ! $
-        -- `no_hit` is called
-        nothing ! $ nothing ! $ move ! (1 ∷ 0 ∷ []) $ join ! $ nothing ! $ move ! (1 ∷ 0 ∷ []) $ join ! $
-        calls-on ! fm no-hit.ended (no-hit.clauses 𝓤 H A mem run) no-hit-known ((tt, tt, tt, tt, tt), tt) refl (no-more !) (λ u best ws.
-        drop ! $ heard ! (best ≡ hit 0 0) (λ eb.
-        use1 W (‵ ftrue) (id⊢ 𝓤 _) $ drop ! $ lands-as ! hitting best (λ best-is.
-        land ! (from ! (stop !)) (init ! 34 refl (of-type W hitting best best-is .0)) $
-        assigns ! (bin ! (load ! (from ! (stop !)) (look ! 40 refl)) (lit ! tt) tt) (from ! (stop !)) (init ! 22 refl (tt, tt)) $
-        first ! $ branches ! (load ! (from ! (stop !)) (look ! 22 refl))
-        (λ z. assigns ! (of-opd ! (load ! (from ! (stop !)) (look ! 34 refl))) (from ! (stop !)) (init ! 48 refl
-        (of-type W hitting best best-is .0)) $
-        -- it returns, and its locals are freed
-        returns-within ! Post refl (look ! 48 refl) $ forget ! 48 refl $ forget ! 46 refl $ forget ! 44 refl $ forget ! 42 refl $ forget ! 40 refl $
-        forget ! 38 refl $ forget ! 36 refl $ forget ! 34 refl $ forget ! 22 refl $
-        move ! (48 ∷ 49 ∷ 46 ∷ 47 ∷ 44 ∷ 45 ∷ 42 ∷ 43 ∷ 40 ∷ 41 ∷ 38 ∷ 39 ∷ 36 ∷ 37 ∷ 34 ∷ 35 ∷ 32 ∷ 33 ∷ 30 ∷ 31 ∷ 28 ∷ 29 ∷ 26 ∷ 27 ∷ 24 ∷ 25 ∷ 22
-        ∷ 23 ∷ 20 ∷ 21 ∷ 18 ∷ 19 ∷ 16 ∷ 17 ∷ 14 ∷ 15 ∷ 12 ∷ 13 ∷ 10 ∷ 11 ∷ 8 ∷ 9 ∷ 6 ∷ 7 ∷ []) $ free1 ! $ free1 ! $ free1 ! $ free1 ! $ free1 ! $
-        free1 ! $ free1 ! $ free1 ! $ free1 ! $ free1 ! $ free1 ! $ free1 ! $ free1 ! $ free1 ! $ free1 ! $ free1 ! $ free1 ! $ free1 ! $ free1 ! $
-        free1 ! $ free1 ! $ free1 ! $ free0 ! $
-        -- what it promises, the tokens and the parameters
-        keep ! (5 ∷ 4 ∷ 3 ∷ 2 ∷ 1 ∷ 0 ∷ []) $ suffices ! _ (ends-at 𝓤 H A f.ended stayed (f.clauses 𝓤 H A mem run) W bound (hitting .val best) best
-        (tt, (tt, (tt, (tt, (tt, (tt, tt)))))) (tt, (tt, (tt, (tt, (tt, (tt, tt))))))) $
-        says ! (eb ∙ find-none list (plain rows) text wanted limit n asks (eqb→eq n 0 z)) $
-        nothing ! $ move ! (3 ∷ 0 ∷ []) $ join ! $ move ! (2 ∷ 0 ∷ []) $ join ! $ move ! (1 ∷ 0 ∷ []) $ join ! $ frame ! $ nothing ! $
-        with-data ! (word w64) limit (refl, fits-limit) $ with-data ! wanting wanted is-wanted $ with-data ! (word w64) n (refl, fits-n) $
-        move ! (3 ∷ 0 ∷ []) $ fjoin ! $ move ! (2 ∷ 0 ∷ []) $ fjoin ! $ move ! (1 ∷ 0 ∷ []) $ fjoin ! $ frame ! $
-        owned ! Hi.the-row (Is Hi.the-row) (hitting .makes 𝓤 H A W) best _ best-is $ done !)
-        (λ nz. skips ! $ exec ! (𝓣 .C) (𝓣 .Λ) (En l₀ l₁ l₂ l₃ l₄ l₅ l₆ l₇ l₈ l₉ l₁₀ l₁₁ l₁₂ l₁₃ l₁₄ l₁₅ l₁₆ l₁₇ l₁₈ l₁₉ l₂₀ l₂₁) pieces.t-4 (atRet
-        (En l₀ l₁ l₂ l₃ l₄ l₅ l₆ l₇ l₈ l₉ l₁₀ l₁₁ l₁₂ l₁₃ l₁₄ l₁₅ l₁₆ l₁₇ l₁₈ l₁₉ l₂₀ l₂₁) Post) $
-        -- `code_for` is called
-        move ! (2 ∷ []) $ shr-twice ! u8 b-text o-text text $ nothing ! $ move ! (7 ∷ 0 ∷ []) $ join ! $ nothing ! $
-        with-data ! wanting wanted is-wanted $ move ! (2 ∷ 0 ∷ []) $ fjoin ! $ move ! (1 ∷ 0 ∷ []) $ join ! $ nothing ! $ move ! (1 ∷ 0 ∷ []) $
-        join ! $
-        calls-on ! fm code-for.ended (code-for.clauses 𝓤 H A mem run) code-for-known (((κ₀, tt), (q₀, tt), tt,
-        (ref b-text o-text γ-text text, (wanted, tt)), (sliceVal (b-text, o-text) (length text) ∷ [], (wanting .val wanted ∷ [], tt))), tt) refl
-        (and-then ! (load ! (from ! (stop !)) (look ! 46 refl)) (and-then ! (load ! (from ! (stop !)) (look ! 38 refl)) (no-more !))) (λ u code ws₁.
-        unmoved ! $ unmoved ! $ drop ! $ heard ! (code ≡ codeFor text (wanted .key)) (λ ec.
-        use1 W (‵ (flft κ₀ q₀) ⊛ ‵ ftrue) (id⊢ 𝓤 _) $ split ! $ move ! (1 ∷ []) $ drop ! $ move ! (1 ∷ []) $ lands-as ! (word w64) code (λ code-is.
-        land ! (from ! (stop !)) (init ! 32 refl (tt, record { fits = code-is .1 })) $
-        assigns ! (bin ! (load ! (from ! (stop !)) (look ! 32 refl)) (load ! (from ! (stop !)) (look ! 40 refl)) (omega (arith, there n nz)))
-        (from ! (stop !)) (init ! 30 refl (tt, record { fits = omega (arith, chain-in list rows text wanted limit n code asks ec (there n nz),
-        room-rows .0) })) $
-        assigns ! (bin ! (load ! (from ! (stop !)) (look ! 30 refl)) (lit ! tt) (scaled-fits (code % n) (length rows) 56 (chain-in list rows text
-        wanted limit n code asks ec (there n nz)) (room-rows .1))) (from ! (stop !)) (init ! 18 refl
-        (tt, scaled-fits (code % n) (length rows) 56 (chain-in list rows text wanted limit n code asks ec (there n nz)) (room-rows .1))) $
-        assigns ! (bin ! (load ! (from ! (fld ! refl (stop !))) (look-in ! 42 (sub ! 0 refl (whole !)))) (load !
-        (from ! (stop !)) (look ! 18 refl)) tt) (from ! (stop !)) (init ! 16 refl (tt, tt)) $
-        rewrite ! 16 (λ (p : ℕ). ‵ (fat fullShare (ty 16) l₁₆ 0 (vptr b-rows p))) (sym (place-is 56 o-rows (code % n))) refl $
-        -- rows[code % n] is read
-        move ! (2 ∷ 4 ∷ []) $ shr-looks ! tt contact b-rows o-rows rows (code % n) noContact (chain-in list rows text wanted limit n code asks ec
-        (there n nz)) (λ q′ is.
-        assigns ! (of-opd ! (load ! (from ! (hop ! (look ! 19 refl) (stop !))) (look-raw ! 0 refl))) (from ! (stop !)) (init ! 17 refl
-        (of-type W contact (getD rows (code % n) noContact) is .0)) $
-        shr-shuts ! tt contact b-rows o-rows q′ rows (code % n) noContact (chain-in list rows text wanted limit n code asks ec (there n nz)) $
-        -- `numbers_of` is called
-        nothing ! $ nothing ! $ with-data ! contact (getD rows (code % n) noContact) is $ move ! (1 ∷ 0 ∷ []) $ join ! $ nothing ! $
-        move ! (1 ∷ 0 ∷ []) $ join ! $
-        calls-on ! fm numbers-of.ended (numbers-of.clauses 𝓤 H A mem run) numbers-of-known ((tt, tt, tt, (getD rows (code % n) noContact, tt),
-        (contact .val (getD rows (code % n) noContact) ∷ [], tt)), tt) refl (and-then ! (load ! (from ! (stop !)) (look ! 15 refl)) (no-more !))
-        (λ u row₀ ws₂.
-        unmoved ! $ drop ! $ heard ! (row₀ ≡ numbersOf (getD rows (code % n) noContact)) (λ er₀.
-        use1 W (‵ ftrue) (id⊢ 𝓤 _) $ drop ! $ lands-as ! (array (word w32) 14) row₀ (λ is₁.
-        land ! (from ! (stop !)) (init ! 20 refl (of-type W (array (word w32) 14) row₀ is₁ .0)) $
-        -- `number_in` is called
-        nothing ! $ nothing ! $ with-data ! (word w64) 0 (refl, lit< tt) $ with-data ! (array (word w32) 14) row₀ is₁ $ move ! (1 ∷ 0 ∷ []) $
-        join ! $ knows ! (0 < 14) (lit< tt) $ move ! (1 ∷ 0 ∷ []) $ join ! $
-        calls-on ! fm number-in.ended (number-in.clauses 𝓤 H A mem run) number-in-known ((tt, tt, tt, (row₀, (0, tt)), ((array (word w32) 14) .val
-        row₀ ∷ [], (vint w64 0 ∷ [], tt))), tt) refl (and-then ! (load ! (from ! (stop !)) (look ! 21 refl)) (and-then ! (lit ! tt) (no-more !)))
-        (λ u at₀ ws₃.
-        unmoved ! $ unmoved ! $ drop ! $ heard ! (at₀ ≡ getD row₀ 0 0) (λ ea₀.
-        use1 W (‵ ftrue) (id⊢ 𝓤 _) $ drop ! $ lands-as ! (word w64) at₀ (λ at-is.
-        land ! (from ! (stop !)) (init ! 28 refl (tt, record { fits = at-is .1 })) $
-        forget ! 30 refl $ forget ! 22 refl $ forget ! 20 refl $ forget ! 18 refl $ forget ! 16 refl $ forget ! 14 refl $ first ! $ blocks ! $
-        loops ! 𝓣 (Nearer code (code-is .1) ec (there n nz)) (Nearer-wf code (code-is .1) ec (there n nz)) (At code (code-is .1) ec (there n nz) 𝓣 fm
-        no-hit-known code-for-known numbers-of-known number-in-known found-known l₀ l₁ l₂ l₃ l₄ l₅ l₆ l₇ l₈ l₉ l₁₀ l₁₁ l₁₂ l₁₃ l₁₄ l₁₅ l₁₆ l₁₇ l₁₈
-        l₁₉ l₂₀ l₂₁) (turns code (code-is .1) ec (there n nz) 𝓣 fm no-hit-known code-for-known numbers-of-known number-in-known found-known l₀ l₁ l₂
-        l₃ l₄ l₅ l₆ l₇ l₈ l₉ l₁₀ l₁₁ l₁₂ l₁₃ l₁₄ l₁₅ l₁₆ l₁₇ l₁₈ l₁₉ l₂₀ l₂₁) (record { at = at₀; at-fits = at-is .1; best = best; best-is = best-is;
+      ‵ (owns (ShrSlice (named 0) κ₀ u8 ∷ ShrSlice (named 1) κ₁ u8 ∷ ShrSlice (named 2) κ₂ T.the-row ∷ usize ∷ Wa.the-row ∷ u64 ∷ []) (
+        ref b-text o-text γ-text text,
+        (
+          ref b-list o-list γ-list list,
+          (ref b-rows o-rows γ-rows rows, (n, (wanted, (limit, tt)))),
+        ),
+      ) at) ∷ []) ∵ enter ! (𝓣 .C) (𝓣 .Λ) code.function
+      (sliceVal (b-text, o-text) (length text) ∷ sliceVal (b-list, o-list) (length list) ∷ sliceVal (b-rows, o-rows) (length rows) ∷ vint w64 n ∷
+      wanting .val wanted ∷ vint w64 limit ∷ []) _ $
+      alloc1 ! (λ l₀. alloc1 ! (λ l₁. alloc1 ! (λ l₂. alloc1 ! (λ l₃. alloc1 ! (λ l₄. alloc1 ! (λ l₅. alloc1 ! (λ l₆. alloc1 ! (λ l₇.
+      alloc1 ! (λ l₈. alloc1 ! (λ l₉. alloc1 ! (λ l₁₀. alloc1 ! (λ l₁₁. alloc1 ! (λ l₁₂. alloc1 ! (λ l₁₃. alloc1 ! (λ l₁₄. alloc1 ! (λ l₁₅.
+      alloc1 ! (λ l₁₆. alloc1 ! (λ l₁₇. alloc1 ! (λ l₁₈. alloc1 ! (λ l₁₉. alloc1 ! (λ l₂₀. alloc1 ! (λ l₂₁. alloc0 ! $ params1 ! $
+      pass1 ! (init ! 40 refl (tt, (tt, (record { fits = room-text .0 }, tt)))) $
+      pass1 ! (init ! 38 refl (tt, (tt, (record { fits = room-list .0 }, tt)))) $
+      pass1 ! (init ! 36 refl (tt, (tt, (record { fits = room-rows .0 }, tt)))) $ pass1 ! (init ! 34 refl (tt, record { fits = fits-n })) $
+      pass1 ! (init ! 32 refl (of-type W wanting wanted is-wanted .0)) $ pass1 ! (init ! 30 refl (tt, record { fits = fits-limit })) $ pass0 ! $
+      move ! (44 ∷ []) $ split ! $ move ! (1 ∷ []) $ split ! $ move ! (1 ∷ []) $ split ! $ move ! (1 ∷ []) $ drop ! $ move ! (47 ∷ []) $ fsplit ! $
+      move ! (1 ∷ []) $ fsplit ! $ move ! (1 ∷ []) $ fsplit ! $ move ! (1 ∷ []) $ fsplit ! $ drop ! $ fsplit ! $ drop ! $ fsplit ! $ drop ! $
+      drop ! $
+      -- `no_hit` is called
+      nothing ! $ nothing ! $ move ! (1 ∷ 0 ∷ []) $ join ! $ nothing ! $ move ! (1 ∷ 0 ∷ []) $ join ! $
+      calls-on ! fm no-hit.ended (no-hit.clauses 𝓤 H A mem run) no-hit-known ((tt, tt, tt, tt, tt), tt) refl (no-more !) (λ u best ws.
+      drop ! $ heard ! (best ≡ hit 0 0) (λ eb.
+      use1 W (‵ ftrue) (id⊢ 𝓤 _) $ drop ! $ lands-as ! hitting best (λ best-is.
+      land ! (from ! (stop !)) (init ! 34 refl (of-type W hitting best best-is .0)) $
+      assigns ! (bin ! (load ! (from ! (stop !)) (look ! 40 refl)) (lit ! tt) tt) (from ! (stop !)) (init ! 22 refl (tt, tt)) $
+      first ! $ branches ! (load ! (from ! (stop !)) (look ! 22 refl))
+      (λ z. assigns ! (of-opd ! (load ! (from ! (stop !)) (look ! 34 refl))) (from ! (stop !)) (init ! 48 refl
+      (of-type W hitting best best-is .0)) $
+      -- it returns, and its locals are freed
+      returns-within ! Post refl (look ! 48 refl) $ forget ! 48 refl $ forget ! 46 refl $ forget ! 44 refl $ forget ! 42 refl $ forget ! 40 refl $
+      forget ! 38 refl $ forget ! 36 refl $ forget ! 34 refl $ forget ! 22 refl $
+      move ! (48 ∷ 49 ∷ 46 ∷ 47 ∷ 44 ∷ 45 ∷ 42 ∷ 43 ∷ 40 ∷ 41 ∷ 38 ∷ 39 ∷ 36 ∷ 37 ∷ 34 ∷ 35 ∷ 32 ∷ 33 ∷ 30 ∷ 31 ∷ 28 ∷ 29 ∷ 26 ∷ 27 ∷ 24 ∷ 25 ∷ 22
+      ∷ 23 ∷ 20 ∷ 21 ∷ 18 ∷ 19 ∷ 16 ∷ 17 ∷ 14 ∷ 15 ∷ 12 ∷ 13 ∷ 10 ∷ 11 ∷ 8 ∷ 9 ∷ 6 ∷ 7 ∷ []) $ free1 ! $ free1 ! $ free1 ! $ free1 ! $ free1 ! $
+      free1 ! $ free1 ! $ free1 ! $ free1 ! $ free1 ! $ free1 ! $ free1 ! $ free1 ! $ free1 ! $ free1 ! $ free1 ! $ free1 ! $ free1 ! $ free1 ! $
+      free1 ! $ free1 ! $ free1 ! $ free0 ! $
+      -- what it promises, the tokens and the parameters
+      keep ! (5 ∷ 4 ∷ 3 ∷ 2 ∷ 1 ∷ 0 ∷ []) $ suffices ! _ (ends-at 𝓤 H A f.ended stayed (f.clauses 𝓤 H A mem run) W bound (hitting .val best) best
+      (tt, (tt, (tt, (tt, (tt, (tt, tt)))))) (tt, (tt, (tt, (tt, (tt, (tt, tt))))))) $
+      says ! (eb ∙ find-none list (plain rows) text wanted limit n asks (eqb→eq n 0 z)) $
+      nothing ! $ move ! (3 ∷ 0 ∷ []) $ join ! $ move ! (2 ∷ 0 ∷ []) $ join ! $ move ! (1 ∷ 0 ∷ []) $ join ! $ frame ! $ nothing ! $
+      with-data ! (word w64) limit (refl, fits-limit) $ with-data ! wanting wanted is-wanted $ with-data ! (word w64) n (refl, fits-n) $
+      move ! (3 ∷ 0 ∷ []) $ fjoin ! $ move ! (2 ∷ 0 ∷ []) $ fjoin ! $ move ! (1 ∷ 0 ∷ []) $ fjoin ! $ frame ! $
+      owned ! Hi.the-row (Is Hi.the-row) (hitting .makes 𝓤 H A W) best _ best-is $ done !)
+      (λ nz. skips ! $ exec ! (𝓣 .C) (𝓣 .Λ) (En l₀ l₁ l₂ l₃ l₄ l₅ l₆ l₇ l₈ l₉ l₁₀ l₁₁ l₁₂ l₁₃ l₁₄ l₁₅ l₁₆ l₁₇ l₁₈ l₁₉ l₂₀ l₂₁) pieces.t-4 (atRet
+      (En l₀ l₁ l₂ l₃ l₄ l₅ l₆ l₇ l₈ l₉ l₁₀ l₁₁ l₁₂ l₁₃ l₁₄ l₁₅ l₁₆ l₁₇ l₁₈ l₁₉ l₂₀ l₂₁) Post) $
+      -- `code_for` is called
+      move ! (2 ∷ []) $ shr-twice ! u8 b-text o-text text $ nothing ! $ move ! (7 ∷ 0 ∷ []) $ join ! $ nothing ! $
+      with-data ! wanting wanted is-wanted $ move ! (2 ∷ 0 ∷ []) $ fjoin ! $ move ! (1 ∷ 0 ∷ []) $ join ! $ nothing ! $ move ! (1 ∷ 0 ∷ []) $
+      join ! $
+      calls-on ! fm code-for.ended (code-for.clauses 𝓤 H A mem run) code-for-known (
+        (
+          (κ₀, tt),
+          (q₀, tt),
+          tt,
+          (ref b-text o-text γ-text text, (wanted, tt)),
+          (sliceVal (b-text, o-text) (length text) ∷ [], (wanting .val wanted ∷ [], tt)),
+        ),
+        tt,
+      ) refl
+      (and-then ! (load ! (from ! (stop !)) (look ! 46 refl)) (and-then ! (load ! (from ! (stop !)) (look ! 38 refl)) (no-more !))) (λ u code ws₁.
+      unmoved ! $ unmoved ! $ drop ! $ heard ! (code ≡ codeFor text (wanted .key)) (λ ec.
+      use1 W (‵ (flft κ₀ q₀) ⊛ ‵ ftrue) (id⊢ 𝓤 _) $ split ! $ move ! (1 ∷ []) $ drop ! $ move ! (1 ∷ []) $ lands-as ! (word w64) code (λ code-is.
+      land ! (from ! (stop !)) (init ! 32 refl (tt, record { fits = code-is .1 })) $
+      assigns ! (bin ! (load ! (from ! (stop !)) (look ! 32 refl)) (load ! (from ! (stop !)) (look ! 40 refl)) (omega (arith, there n nz)))
+      (from ! (stop !)) (init ! 30 refl (
+        tt,
+        record {
+          fits = omega (
+            arith,
+            chain-in list rows text wanted limit n code asks ec (there n nz),
+            room-rows .0,
+          );
+        },
+      )) $
+      assigns ! (bin ! (load ! (from ! (stop !)) (look ! 30 refl)) (lit ! tt) (scaled-fits (code % n) (length rows) 56 (chain-in list rows text
+      wanted limit n code asks ec (there n nz)) (room-rows .1))) (from ! (stop !)) (init ! 18 refl
+      (tt, scaled-fits (code % n) (length rows) 56 (chain-in list rows text wanted limit n code asks ec (there n nz)) (room-rows .1))) $
+      assigns ! (bin ! (load ! (from ! (fld ! refl (stop !))) (look-in ! 42 (sub ! 0 refl (whole !)))) (load !
+      (from ! (stop !)) (look ! 18 refl)) tt) (from ! (stop !)) (init ! 16 refl (tt, tt)) $
+      rewrite ! 16 (λ (p : ℕ). ‵ (fat fullShare (ty 16) l₁₆ 0 (vptr b-rows p))) (sym (place-is 56 o-rows (code % n))) refl $
+      -- rows[code % n] is read
+      move ! (2 ∷ 4 ∷ []) $ shr-looks ! tt contact b-rows o-rows rows (code % n) noContact (chain-in list rows text wanted limit n code asks ec
+      (there n nz)) (λ q′ is.
+      assigns ! (of-opd ! (load ! (from ! (hop ! (look ! 19 refl) (stop !))) (look-raw ! 0 refl))) (from ! (stop !)) (init ! 17 refl
+      (of-type W contact (getD rows (code % n) noContact) is .0)) $
+      shr-shuts ! tt contact b-rows o-rows q′ rows (code % n) noContact (chain-in list rows text wanted limit n code asks ec (there n nz)) $
+      -- `numbers_of` is called
+      nothing ! $ nothing ! $ with-data ! contact (getD rows (code % n) noContact) is $ move ! (1 ∷ 0 ∷ []) $ join ! $ nothing ! $
+      move ! (1 ∷ 0 ∷ []) $ join ! $
+      calls-on ! fm numbers-of.ended (numbers-of.clauses 𝓤 H A mem run) numbers-of-known (
+        (
+          tt,
+          tt,
+          tt,
+          (getD rows (code % n) noContact, tt),
+          (contact .val (getD rows (code % n) noContact) ∷ [], tt),
+        ),
+        tt,
+      ) refl (and-then ! (load ! (from ! (stop !)) (look ! 15 refl)) (no-more !))
+      (λ u row₀ ws₂.
+      unmoved ! $ drop ! $ heard ! (row₀ ≡ numbersOf (getD rows (code % n) noContact)) (λ er₀.
+      use1 W (‵ ftrue) (id⊢ 𝓤 _) $ drop ! $ lands-as ! (array (word w32) 14) row₀ (λ is₁.
+      land ! (from ! (stop !)) (init ! 20 refl (of-type W (array (word w32) 14) row₀ is₁ .0)) $
+      -- `number_in` is called
+      nothing ! $ nothing ! $ with-data ! (word w64) 0 (refl, lit< tt) $ with-data ! (array (word w32) 14) row₀ is₁ $ move ! (1 ∷ 0 ∷ []) $
+      join ! $ knows ! (0 < 14) (lit< tt) $ move ! (1 ∷ 0 ∷ []) $ join ! $
+      calls-on ! fm number-in.ended (number-in.clauses 𝓤 H A mem run) number-in-known (
+        (
+          tt,
+          tt,
+          tt,
+          (row₀, (0, tt)),
+          (
+            (array (word w32) 14) .val
+                row₀ ∷ [],
+            (vint w64 0 ∷ [], tt),
+          ),
+        ),
+        tt,
+      ) refl (and-then ! (load ! (from ! (stop !)) (look ! 21 refl)) (and-then ! (lit ! tt) (no-more !)))
+      (λ u at₀ ws₃.
+      unmoved ! $ unmoved ! $ drop ! $ heard ! (at₀ ≡ getD row₀ 0 0) (λ ea₀.
+      use1 W (‵ ftrue) (id⊢ 𝓤 _) $ drop ! $ lands-as ! (word w64) at₀ (λ at-is.
+      land ! (from ! (stop !)) (init ! 28 refl (tt, record { fits = at-is .1 })) $
+      forget ! 30 refl $ forget ! 22 refl $ forget ! 20 refl $ forget ! 18 refl $ forget ! 16 refl $ forget ! 14 refl $ first ! $ blocks ! $
+      loops ! 𝓣 (Nearer code (code-is .1) ec (there n nz)) (Nearer-wf code (code-is .1) ec (there n nz)) (At code (code-is .1) ec (there n nz) 𝓣 fm
+      no-hit-known code-for-known numbers-of-known number-in-known found-known l₀ l₁ l₂ l₃ l₄ l₅ l₆ l₇ l₈ l₉ l₁₀ l₁₁ l₁₂ l₁₃ l₁₄ l₁₅ l₁₆ l₁₇ l₁₈
+      l₁₉ l₂₀ l₂₁) (turns code (code-is .1) ec (there n nz) 𝓣 fm no-hit-known code-for-known numbers-of-known number-in-known found-known l₀ l₁ l₂
+      l₃ l₄ l₅ l₆ l₇ l₈ l₉ l₁₀ l₁₁ l₁₂ l₁₃ l₁₄ l₁₅ l₁₆ l₁₇ l₁₈ l₁₉ l₂₀ l₂₁) (record {
+        at = at₀;
+        at-fits = at-is .1;
+        best = best;
+        best-is = best-is;
         ok = subst (Walking list (plain rows) text wanted limit n code at₀)
-        (sym eb) (find-first list rows text wanted limit n code asks ec (there n nz) row₀ at₀ er₀ ea₀) })))))))))))))))))))))))))))))))))))))
+            (sym eb) (find-first list rows text wanted limit n code asks ec (there n nz) row₀ at₀ er₀ ea₀);
+      })))))))))))))))))))))))))))))))))))))
 
 module _ {M : Type 1} (𝓤 : URA M) (H : Heap 𝓤) (A : Atoms 𝓤) (W : Given 𝓤 H A) (mem : Memory → SProp 𝓤) (run : Routine → Fun 𝓤) where
   walks : (𝓣 : Tables 𝓤 H) → Triple 𝓤 (𝓣 .C #search·no-hit) (no-hit-called 𝓤 H A mem run) →
@@ -372,16 +508,32 @@ module _ {M : Type 1} (𝓤 : URA M) (H : Heap 𝓤) (A : Atoms 𝓤) (W : Given
       Triple 𝓤 (𝓣 .C #index·number-in) (number-in-called 𝓤 H A mem run) → Triple 𝓤 (𝓣 .C #search·found) (found-called 𝓤 H A mem run) →
       Walks 𝓤 H A f.ended stayed (WpFn 𝓤 H (𝓣 .C) (𝓣 .Λ) code.function) (f.clauses 𝓤 H A mem run)
   walks 𝓣 no-hit-known code-for-known numbers-of-known number-in-known found-known =
-      walked 𝓤 H A f.ended stayed (f.clauses 𝓤 H A mem run) (WpFn 𝓤 H (𝓣 .C) (𝓣 .Λ) code.function) (λ κs. (slice-vals, (slice-vals, (slice-vals,
-          (λ z. vint w64 z ∷ [], (λ z. wanting .val z ∷ [], (λ z. vint w64 z ∷ [], tt)))))))
-      (λ κs. (shr-slice-tells (named 0) (κs .0) u8, (shr-slice-tells (named 1) (κs .1 .0) u8, (shr-slice-tells (named 2) (κs .1 .1 .0) T.the-row,
-          ((word w64) .tells, (wanting .tells, ((word w64) .tells, tt)))))))
+      walked 𝓤 H A f.ended stayed (f.clauses 𝓤 H A mem run) (WpFn 𝓤 H (𝓣 .C) (𝓣 .Λ) code.function) (λ κs. (
+        slice-vals,
+        (
+          slice-vals,
+          (
+            slice-vals,
+            (λ z. vint w64 z ∷ [], (λ z. wanting .val z ∷ [], (λ z. vint w64 z ∷ [], tt))),
+          ),
+        ),
+      ))
+      (λ κs. (
+        shr-slice-tells (named 0) (κs .0) u8,
+        (
+          shr-slice-tells (named 1) (κs .1 .0) u8,
+          (
+            shr-slice-tells (named 2) (κs .1 .1 .0) T.the-row,
+            ((word w64) .tells, (wanting .tells, ((word w64) .tells, tt))),
+          ),
+        ),
+      ))
       (λ κs qs bounds a g are. needs 𝓤 (Indexed (a .1 .0 .now) (a .1 .1 .1 .0) (plain (a .1 .1 .0 .now))) _ (λ asks.
-          walk 𝓤 H A W mem run (κs .0) (κs .1 .0) (κs .1 .1 .0) (qs .0) (qs .1 .0) (qs .1 .1 .0) (a .0 .ptr .0) (a .0 .ptr .1) (a .0 .name) (a .0
-          .now) (a .1 .0 .ptr .0) (a .1 .0 .ptr .1) (a .1 .0 .name) (a .1 .0 .now) (a .1 .1 .0 .ptr .0) (a .1 .1 .0 .ptr .1) (a .1 .1 .0 .name) (a .1
-          .1 .0 .now) (a .1 .1 .1 .0) (a .1 .1 .1 .1 .0) (a .1 .1 .1 .1 .1 .0) (are .0 .0 .1) (are .1 .0 .0 .1) (are .1 .1 .0 .0 .1) (are .1 .1 .1 .0
-          .1) (are .1 .1 .1 .1 .0) (are .1 .1 .1 .1 .1 .0 .1) asks 𝓣 (fmOf 𝓤 H (W .laws) 𝓣) no-hit-known code-for-known numbers-of-known
-          number-in-known found-known))
+      walk 𝓤 H A W mem run (κs .0) (κs .1 .0) (κs .1 .1 .0) (qs .0) (qs .1 .0) (qs .1 .1 .0) (a .0 .ptr .0) (a .0 .ptr .1) (a .0 .name) (a .0
+      .now) (a .1 .0 .ptr .0) (a .1 .0 .ptr .1) (a .1 .0 .name) (a .1 .0 .now) (a .1 .1 .0 .ptr .0) (a .1 .1 .0 .ptr .1) (a .1 .1 .0 .name) (a .1
+      .1 .0 .now) (a .1 .1 .1 .0) (a .1 .1 .1 .1 .0) (a .1 .1 .1 .1 .1 .0) (are .0 .0 .1) (are .1 .0 .0 .1) (are .1 .1 .0 .0 .1) (are .1 .1 .1 .0
+      .1) (are .1 .1 .1 .1 .0) (are .1 .1 .1 .1 .1 .0 .1) asks 𝓣 (fmOf 𝓤 H (W .laws) 𝓣) no-hit-known code-for-known numbers-of-known
+      number-in-known found-known))
 
 meets : {M : Type 1} (𝓤 : URA M) (H : Heap 𝓤) (A : Atoms 𝓤) → Given 𝓤 H A → (mem : Memory → SProp 𝓤) (run : Routine → Fun 𝓤) (𝓣 : Tables 𝓤 H) →
     Triple 𝓤 (𝓣 .C #search·no-hit) (no-hit-called 𝓤 H A mem run) → Triple 𝓤 (𝓣 .C #search·code-for) (code-for-called 𝓤 H A mem run) →
@@ -389,13 +541,31 @@ meets : {M : Type 1} (𝓤 : URA M) (H : Heap 𝓤) (A : Atoms 𝓤) → Given �
     Triple 𝓤 (𝓣 .C #search·found) (found-called 𝓤 H A mem run)
     → Meets 𝓤 H A f.signature (WpFn 𝓤 H (𝓣 .C) (𝓣 .Λ) code.function) (f.spec 𝓤 H A mem run)
 meets 𝓤 H A W mem run 𝓣 no-hit-known code-for-known numbers-of-known number-in-known found-known =
-    walk-meets 𝓤 H A f.ended stayed W (goes-none-slice 𝓤 H A W 3 (0 ∷ []) tt (slot (λ _.
-        u8)) yes, (goes-none-slice 𝓤 H A W 3 (1 ∷ []) tt (slot (λ _.
-        u8)) yes, (goes-none-slice 𝓤 H A W 3 (2 ∷ []) tt (slot (λ _. T.the-row)) yes, (goes-none 𝓤 H A W 3 (λ _. usize) yes (λ κs x f.
-        refl), (goes-none 𝓤 H A W 3 (λ _. Wa.the-row) yes (λ κs x f. refl), (goes-none 𝓤 H A W 3 (λ _. u64) yes (λ κs x f.
-        refl), tt)))))) (f.clauses 𝓤 H A mem run)
+    walk-meets 𝓤 H A f.ended stayed W (
+      goes-none-slice 𝓤 H A W 3 (0 ∷ []) tt (slot (λ _.
+          u8)) yes,
+      (
+        goes-none-slice 𝓤 H A W 3 (1 ∷ []) tt (slot (λ _.
+            u8)) yes,
+        (
+          goes-none-slice 𝓤 H A W 3 (2 ∷ []) tt (slot (λ _. T.the-row)) yes,
+          (
+            goes-none 𝓤 H A W 3 (λ _. usize) yes (λ κs x f.
+                refl),
+            (
+              goes-none 𝓤 H A W 3 (λ _. Wa.the-row) yes (λ κs x f. refl),
+              (
+                goes-none 𝓤 H A W 3 (λ _. u64) yes (λ κs x f.
+                    refl),
+                tt,
+              ),
+            ),
+          ),
+        ),
+      ),
+    ) (f.clauses 𝓤 H A mem run)
     (WpFn 𝓤 H (𝓣 .C) (𝓣 .Λ) code.function) (WpFn-mono 𝓤 H (W .laws) 𝓣 code.function) (walks 𝓤 H A W mem run 𝓣 no-hit-known code-for-known
-        numbers-of-known number-in-known found-known)
+    numbers-of-known number-in-known found-known)
 
 pub find-spec : {M : Type 1} → stated.statement M
 unfolding code.routine tablesOf
@@ -404,12 +574,12 @@ find-spec 𝓤 H 𝓜 𝓖 𝓡 =
     (tables 𝓤 H 𝓜 𝓡 code.env .C) (tables 𝓤 H 𝓜 𝓡 code.env .Λ) #search·find code.function (code.unfolded 𝓤 H 𝓜 𝓡)
     (meets 𝓤 H (𝓖 .A) (givenOf 𝓤 H 𝓜 𝓖) (𝓜 .mem) (𝓡 .run) (tablesOf 𝓤 H 𝓜 (tables 𝓤 H 𝓜 𝓡 code.env))
     (cited 𝓤 H (no-hit-called 𝓤 H (𝓖 .A) (𝓜 .mem) (𝓡 .run)) 𝓜 𝓡 code.env #search·no-hit no-hit-def.routine code.calls-search·no-hit (no-hit-thm.met 𝓤
-        H 𝓜 𝓖 𝓡))
+    H 𝓜 𝓖 𝓡))
     (cited 𝓤 H (code-for-called 𝓤 H (𝓖 .A) (𝓜 .mem) (𝓡 .run)) 𝓜 𝓡 code.env #search·code-for code-for-def.routine code.calls-search·code-for
-        (code-for-thm.met 𝓤 H 𝓜 𝓖 𝓡))
+    (code-for-thm.met 𝓤 H 𝓜 𝓖 𝓡))
     (cited 𝓤 H (numbers-of-called 𝓤 H (𝓖 .A) (𝓜 .mem) (𝓡 .run)) 𝓜 𝓡 code.env #index·numbers-of numbers-of-def.routine code.calls-index·numbers-of
-        (numbers-of-thm.met 𝓤 H 𝓜 𝓖 𝓡))
+    (numbers-of-thm.met 𝓤 H 𝓜 𝓖 𝓡))
     (cited 𝓤 H (number-in-called 𝓤 H (𝓖 .A) (𝓜 .mem) (𝓡 .run)) 𝓜 𝓡 code.env #index·number-in number-in-def.routine code.calls-index·number-in
-        (number-in-thm.met 𝓤 H 𝓜 𝓖 𝓡))
+    (number-in-thm.met 𝓤 H 𝓜 𝓖 𝓡))
     (cited 𝓤 H (found-called 𝓤 H (𝓖 .A) (𝓜 .mem) (𝓡 .run)) 𝓜 𝓡 code.env #search·found found-def.routine code.calls-search·found (found-thm.met 𝓤 H 𝓜
-        𝓖 𝓡)))
+    𝓖 𝓡)))
