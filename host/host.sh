@@ -221,7 +221,7 @@ original() {
     with_original="--cfg original --extern original=$to/liboriginal.rlib -L $deps"
 }
 # the static library, built anew where a file or a folder of the crates is newer: the exported calls of each crate `ox_…`, whose
-# archives have one object each, as one archive
+# archives have one object each, as one archive. What they stand on is proved first, so that they can be built side by side.
 staticlib() {
     made=$archive/liboxbreathe.a
     if [ -f "$made" ] && [ -z "$(find "$root/crates" "$root/crates.txt" -newer "$made" | head -n 1)" ]; then
@@ -229,14 +229,25 @@ staticlib() {
     fi
     kit_tools
     rm -f "$made" "$made.new"
-    for area in $(sed -n 's/^\(ox_[a-z]*\):.*/\1/p' "$root/crates.txt"); do
-        (cd "$root" && rt staticlib "$area") >"$out/staticlib.log" 2>&1 || {
-            cat "$out/staticlib.log"
-            die "rt staticlib $area failed"
-        }
+    areas=$(sed -n 's/^\(ox_[a-z]*\):.*/\1/p' "$root/crates.txt")
+    # shellcheck disable=SC2046
+    quietly rt check $(sed -n 's/^ox_[a-z]*://p' "$root/crates.txt" | tr ' ' '\n' | sort -u)
+    # the last is the longest
+    echo "$areas" | tac | xargs -P "$(nproc)" -I AREA "$0" area AREA || die "the library was not built"
+    for area in $areas; do
         (cd "$archive" && "$tools/bin/llvm-ar" x "lib$area.a" "$area.o" && "$tools/bin/llvm-ar" rcs "$made.new" "$area.o" && rm "$area.o")
     done
     mv "$made.new" "$made"
+}
+# quietly COMMAND..: from the root, shown only where it fails
+quietly() {
+    log=$(mktemp "$out/log.XXXXXX")
+    (cd "$root" && "$@") >"$log" 2>&1 || {
+        cat "$log"
+        rm -f "$log"
+        die "$* failed"
+    }
+    rm -f "$log"
 }
 # the library that programs are linked with, in $archive
 library() {
@@ -357,6 +368,7 @@ library)
     archive=$root/target/staticlib
     staticlib
     ;;
+area) quietly rt staticlib "$2" ;; # one part of the library
 doc) doc ;;
 importer) importer ;;
 ox) ox ;;

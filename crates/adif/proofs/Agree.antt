@@ -1,30 +1,29 @@
 -- The reading agrees with the grammar. Assumes nothing.
 use mathlib.Core.Path.{_≡_, refl, sym, ap, _∙_}
-use mathlib.Core.Bool.{Bool, true, false}
 use mathlib.Core.List.{List, [], _∷_, _++_, map, append-nil}
 use Prim.Native.Nat.{ℕ, _+_, _≤_, _<_}
-use lib.ListN.{length, getD, take, drop}
-use Rattle.text.specs.Run.{Next, go, stop, follow, run}
+use lib.ListN.{length, drop}
+use Rattle.text.specs.Run.{go, follow, run}
 use Rattle.text.specs.Space.{trimmed}
 use Rattle.text.specs.Utf8.{Utf8}
 use Rattle.text.proofs.RunLaws.{Onward, run-step}
 use Rattle.letters.specs.Capitals.{capitals}
 use Rattle.decimal.specs.Decimal.{unsignedOf}
-use Rattle.decimal.specs.declared.Unsigned.the-variants.{Is, Not}
+use Rattle.decimal.specs.declared.Unsigned.the-variants.{Is}
 use Rattle.refusals.specs.declared.Refusal.{Refusal}
-use Rattle.tags.specs.Tags.{lt, gt, colon, kindOf, byKind, tagAt, nameAt, namePlace, nameLength}
+use Rattle.tags.specs.Tags.{gt, colon, kindOf, byKind, tagAt, namePlace, nameLength}
 use Rattle.tags.specs.Ahead.{Ahead}
 use Rattle.tags.specs.declared.Kind.the-variants.{EndOfHeader, EndOfRecord, EndOfFile, FieldName}
 use Rattle.tags.specs.declared.Tag.{Tag}
 use Rattle.tags.specs.declared.Tag.the-variants.{End, Eoh, Eor, Eof, Field, Refused}
 use Rattle.tags.proofs.AheadLaws.{ahead}
-use Rattle.adif.specs.Records.{Item, eoh, eor, field, Outcome, records, refused, Turn, on, no, then, act, finish, Ending, whole, fault, meaning}
+use Rattle.adif.specs.Records.{Item, eoh, eor, field, Outcome, records, Turn, on, no, then, act, finish, Ending, meaning}
 use Rattle.adif.specs.Grammar
-use Rattle.adif.specs.Grammar.{Why, plain, Items, Without, Cut, all, Tagged, Sized, Says, over, eof-tag, eoh-tag, eor-tag, field-tag, unterminated, missing, bad, truncated, torn}
+use Rattle.adif.specs.Grammar.{Why, plain, Items, all, Tagged, Sized, Says, over, eof-tag, eoh-tag, eor-tag, field-tag, unterminated, missing, bad, truncated, torn}
 use Rattle.adif.specs.Reading.{Row, RowsRead, part, rowName, rowValue, rows, State, onto, readBy, readRun, readTags}
 use Rattle.adif.specs.Told.{fieldOf, toldBy}
 use Rattle.adif.proofs.TagSays
-use Rattle.adif.proofs.Mapped.{mapTurn, mapOutcome, mapItem, Same, then-map, finish-map, act-map}
+use Rattle.adif.proofs.Mapped.{mapOutcome, mapItem, Same, then-map, finish-map, act-map}
 
 onto-on : (n at next : ℕ) → at < next → next ≤ n → (o : Turn Row Refusal) → Onward n at (onto next o)
 onto-on n at next p q (on h d) = (p, q)

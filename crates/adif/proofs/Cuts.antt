@@ -1,17 +1,15 @@
 -- A search for a byte, by what stands before it. Assumes nothing.
-use mathlib.Core.Path.{_≡_, refl, sym, ap, _∙_, subst}
+use mathlib.Core.Path.{_≡_, refl, sym, ap, _∙_}
 use mathlib.Core.Bool.{Bool, true, false}
-use mathlib.Core.List.{List, [], _∷_, _++_, append-assoc, append-nil}
-use Prim.Native.Nat.{ℕ, zero, suc, _+_, _-_, _≤_, _<_}
-use native.Mathlib.Nat.{add-zero, zero-add, suc-ne-zero}
-use native.Mathlib.Numerals.{add-one}
+use mathlib.Core.List.{List, [], _∷_, _++_}
+use Prim.Native.Nat.{ℕ, zero, suc, _+_, _-_}
+use native.Mathlib.Nat.{zero-add}
 use native.Mathlib.Omega.{arith}
-use lib.ListN.{length, getD, take, drop, length-append, drop-of-length-le}
-use lib.Seq.{take-length, take-append-seam, drop-append-seam, drop-drop, drop-append-add, drop-length}
+use lib.ListN.{length, take, drop}
+use lib.Seq.{take-length, take-append-seam, drop-append-seam, drop-drop}
 use lib.Dec.{eqb}
 use borrow.Author.Tests.{eq-eqb, ne-eqb, eqb-true, eqb-false}
-use Rattle.text.specs.Pick.{pick}
-use Rattle.text.specs.Walk.{walk, lead, ends}
+use Rattle.text.specs.Walk.{lead, ends}
 use Rattle.text.specs.Find.{other}
 use Rattle.adif.specs.Grammar.{Without, Cut, all, upto}
 

@@ -1,11 +1,10 @@
 -- Records of rows and records of the fields that the rows stand for: what is made of the one is made of the other. φ takes a field to
 -- the field that it stands for, ψ a refusal to what it tells. Assumes nothing.
-use mathlib.Core.Path.{_≡_, refl, sym, ap, _∙_}
+use mathlib.Core.Path.{_≡_, refl, ap, _∙_}
 use mathlib.Core.Bool.{Bool, true, false}
-use mathlib.Core.List.{List, [], _∷_, _++_, map, map-append}
-use Prim.Native.Nat.{ℕ, _+_}
+use mathlib.Core.List.{List, [], _∷_, map, map-append}
+use Prim.Native.Nat.{ℕ}
 use lib.ListN.{length, length-map}
-use lib.Dec.{leb, ltb}
 use Rattle.text.specs.Pick.{pick}
 use Rattle.letters.specs.Order.{order}
 use Rattle.letters.specs.declared.Order.{Order}

@@ -2,14 +2,14 @@
 use mathlib.Core.Path.{_≡_, refl, sym, ap, _∙_}
 use mathlib.Core.Bool.{Bool, true, false}
 use mathlib.Core.List.{List, [], _∷_, _++_, append-nil}
-use Prim.Native.Nat.{ℕ, _+_, _≤_, _<_}
+use Prim.Native.Nat.{ℕ, _+_, _≤_}
 use native.Mathlib.Omega.{arith}
 use lib.ListN.{length, length-append}
 use lib.Seq.{append-snoc}
 use lib.Dec.{leb, ltb}
 use borrow.Author.Tests.{lt-ltb, le-leb}
 use Rattle.text.specs.Pick.{pick}
-use Rattle.adif.specs.Records.{Fields, Item, eoh, eor, field, Outcome, records, refused, Turn, on, no, then, total, close, finish, put, act, whole, meaning, last, plainly}
+use Rattle.adif.specs.Records.{Fields, Item, eoh, eor, field, Outcome, records, refused, Turn, on, no, then, total, close, finish, put, whole, meaning, last, plainly}
 use Rattle.adif.specs.Limits.{Names256}
 
 module _ {F W : Type 0} (K : Fields F W) where

@@ -3,7 +3,6 @@ use mathlib.Core.Path.{_≡_, refl, sym, ap, _∙_}
 use mathlib.Core.Bool.{Bool, true, false}
 use mathlib.Core.List.{List, [], _∷_, _++_, append-assoc}
 use Prim.Native.Nat.{ℕ, _+_, _-_, _≤_, _<_}
-use native.Mathlib.Nat.{add-zero}
 use native.Mathlib.Omega.{arith}
 use lib.ListN.{length, getD, take, drop, length-append, length-drop}
 use lib.Seq.{take-at, drop-drop, drop-append-le, take-append-le, getD-drop, drop-append-add, getD-at}
@@ -20,7 +19,7 @@ use Rattle.decimal.specs.declared.Unsigned.the-variants.{Is, Not}
 use Rattle.refusals.specs.declared.Refusal.the-variants.{UnterminatedTag, MissingLength, BadLength, TruncatedValue, NonUtf8}
 use Rattle.tags.specs.Tags.{lt, gt, colon, kindOf, colonAt, nameAt, namePlace, nameLength, nameOf, lengthAfter, valueOf, byKind, tagOf, closedAt, openAt, tagAt}
 use Rattle.tags.specs.declared.Kind.{Kind}
-use Rattle.tags.specs.declared.Kind.the-variants.{EndOfHeader, EndOfRecord, EndOfFile, FieldName}
+use Rattle.tags.specs.declared.Kind.the-variants.{FieldName}
 use Rattle.tags.specs.declared.Tag.the-variants.{End, Field, Refused}
 use Rattle.tags.proofs.ValueLaws.{value-test}
 use Rattle.adif.specs.Grammar.{Without, Cut, all, upto, Tagged, Sized}

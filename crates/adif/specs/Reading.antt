@@ -12,7 +12,7 @@ use Rattle.refusals.specs.declared.Verdict.the-variants.{Accepted, Refused as R
 use Rattle.tags.specs.Tags.{tagAt}
 use Rattle.tags.specs.declared.Tag.{Tag}
 use Rattle.tags.specs.declared.Tag.the-variants.{End, Eoh, Eor, Eof, Field, Refused}
-use Rattle.adif.specs.Records.{Fields, Item, eoh, eor, field, Outcome, records, refused, Turn, on, no, act, finish}
+use Rattle.adif.specs.Records.{Fields, eoh, eor, field, Outcome, records, refused, Turn, on, no, act, finish}
 
 -- a row: the name's place and length, and the value's
 abbrev pub Row : Type 0

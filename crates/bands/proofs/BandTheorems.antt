@@ -1,7 +1,6 @@
 -- The bands rise and are disjoint, so at most one holds a frequency, and it is the one that is found. Assumes nothing.
-use mathlib.Core.Path.{_≡_, refl, sym, ap, _∙_}
+use mathlib.Core.Path.{_≡_, refl, ap, _∙_}
 use mathlib.Core.Bool.{Bool, true, false}
-use mathlib.Core.Logic.{⊎-elim}
 use mathlib.Core.List.{List, [], _∷_}
 use Prim.Native.Nat.{ℕ, zero, suc, _+_, _≤_, _<_}
 use native.Mathlib.Nat.{add-zero, add-suc, suc-add}
@@ -10,12 +9,9 @@ use lib.Dec.{leb, ltb}
 use lib.ListN.{length, getD, List·getD-eq-default}
 use borrow.Author.Tests.{leb-true, ltb-true, ltb-false}
 use Rattle.text.proofs.BoolLaws.{both-left, both-right}
-use Rattle.letters.specs.Capitals.{raised}
-use Rattle.letters.specs.Same.{sameRaised}
 use Rattle.tables.specs.Table.{firstFrom}
-use Rattle.tables.specs.Bands.{Band, bands, bandNames, holds, bandFor}
-use Rattle.tables.specs.declared.Found.{Found}
-use Rattle.tables.specs.declared.Found.the-variants.{At, Nothing}
+use Rattle.tables.specs.Bands.{Band, bands, holds, bandFor}
+use Rattle.tables.specs.declared.Found.the-variants.{At}
 use Rattle.tables.proofs.Tested.{all, pairs, all-at, pair-at}
 
 -- the band at k, and past the end of the table one that holds no frequency

@@ -1,19 +1,19 @@
 -- The chains after each record: those of the records at which a service counted. Assumes nothing.
 use mathlib.Core.Path.{_≡_, refl, sym, ap, _∙_, subst}
 use mathlib.Core.Bool.{Bool, true, false}
-use mathlib.Core.List.{List, [], _∷_}
-use Prim.Native.Nat.{ℕ, zero, suc, _+_, _%_, _≤_, _<_}
+use mathlib.Core.List.{List, []}
+use Prim.Native.Nat.{ℕ, _+_, _%_, _≤_, _<_}
 use native.Mathlib.Nat.{mod-lt}
 use native.Mathlib.Omega.{arith}
 use lib.Dec.{eqb, ltb}
-use lib.ListN.{length, getD, drop}
+use lib.ListN.{length, getD}
 use borrow.Author.Tests.{eqb-true, eqb-false, lt-ltb}
 use Rattle.text.specs.Pick.{pick}
 use Rattle.text.proofs.BoolLaws.{cases}
 use Rattle.chain.specs.Chain.{col, Linked, Pushed}
 use Rattle.chain.proofs.Chains.{linked-more, linked-without, linked-as, linked-none}
 use Rattle.entries.specs.Row.{Row}
-use Rattle.counted.specs.Counted.{codeIn, bucketOf, withServices, withHead, marked}
+use Rattle.counted.specs.Counted.{codeIn, bucketOf, marked}
 use Rattle.counted.proofs.MarkLaws.{marked-kept, marked-length, marked-behind, marked-there, marked-else, mark-does}
 use Rattle.cards.specs.Carded.{keptOf, Kept}
 use Rattle.cards.specs.Steps.{rowsAt}

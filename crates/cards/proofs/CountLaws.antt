@@ -1,13 +1,13 @@
 -- A service that an earlier record bears, of those that confirm the same thing, has counted at an earlier one. Assumes nothing.
 use mathlib.Core.Path.{_≡_, refl, sym, ap, _∙_}
 use mathlib.Core.Bool.{Bool, true, false, not}
-use mathlib.Core.List.{List, [], _∷_}
+use mathlib.Core.List.{List}
 use Prim.Native.Nat.{ℕ, zero, suc, _<_}
 use native.Mathlib.Omega.{arith}
 use lib.Dec.{eqb}
 use lib.ListN.{getD}
 use borrow.Author.Tests.{eqb-true, eq-eqb, not-false}
-use Rattle.text.specs.Pick.{pick, both, either}
+use Rattle.text.specs.Pick.{pick, both}
 use Rattle.text.specs.Space.{trimmed}
 use Rattle.text.proofs.BoolLaws.{cases, never, both-left, both-right, both-true}
 use Rattle.letters.specs.Capitals.{capitals}

@@ -1,7 +1,7 @@
 -- The public call's promise is met by one answer, one table of confirmations where they are counted, and rows that agree in all that they
 -- keep. Assumes nothing.
-use mathlib.Core.Path.{_≡_, refl, sym, ap, _∙_}
-use mathlib.Core.Bool.{Bool, true, false}
+use mathlib.Core.Path.{_≡_, sym, _∙_}
+use mathlib.Core.Bool.{true}
 use mathlib.Core.List.{List, []}
 use Prim.Native.Nat.{ℕ, _≤_}
 use native.Mathlib.Omega.{arith}
@@ -12,14 +12,12 @@ use contract.Lifetimes.{Lfts}
 use denote.Ref.{now}
 use denote.Triple.Clauses.{AtExit}
 use borrow.Fn.Kinds.{Dens, resT, endedOf}
-use Rattle.text.specs.Pick.{pick}
 use Rattle.text.proofs.BoolLaws.{cases}
 use Rattle.contacts.specs.Contacts.{Contact}
 use Rattle.plan.specs.Entry.{Entry}
 use Rattle.entries.specs.Row.{Row}
-use Rattle.cards.specs.declared.Carded.{Carded}
 use Rattle.cards.specs.declared.Carded.the-variants.{Full, Counted}
-use Rattle.cards.specs.Carded.{keptOf, newIn, alreadyIn, unmatchedIn, cardedAs}
+use Rattle.cards.specs.Carded.{keptOf, newIn, cardedAs}
 use Rattle.cards.proofs.confirm.Reads as confirm
 use Rattle.cards.proofs.confirm.Kinds as confirm-kinds
 

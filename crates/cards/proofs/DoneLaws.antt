@@ -2,14 +2,14 @@
 use mathlib.Core.Path.{_≡_, refl, sym, ap, _∙_}
 use mathlib.Core.Bool.{Bool, true, false, not}
 use mathlib.Core.List.{List, [], _∷_, _++_, map}
-use Prim.Native.Nat.{ℕ, zero, suc, _+_, _*_, _≤_, _<_}
+use Prim.Native.Nat.{ℕ, suc, _+_, _≤_, _<_}
 use native.Mathlib.Numerals.{add-one}
 use native.Mathlib.Omega.{arith}
-use lib.Dec.{eqb, leb}
+use lib.Dec.{eqb}
 use lib.ListN.{length, getD, length-append}
 use lib.Seq.{sets}
 use borrow.Author.Tests.{eqb-true, eqb-false, eq-eqb, ne-eqb}
-use Rattle.text.specs.Pick.{pick, both, either}
+use Rattle.text.specs.Pick.{both}
 use Rattle.text.proofs.BoolLaws.{cases, never}
 use Rattle.chain.specs.Chain.{col}
 use Rattle.contacts.specs.Contacts.{Contact, idOf, servicesOf}
@@ -19,7 +19,7 @@ use Rattle.search.specs.Search.{placeOf}
 use Rattle.confirmations.specs.declared.Answer.{Answer}
 use Rattle.plan.specs.Entry.{Entry, noEntry}
 use Rattle.plan.specs.Fates.{fatesIn}
-use Rattle.plan.specs.Confirmed.{Confirmation, toRecord, hasBit, bears, given, recorded, contactNumbered, counts, countedAt, newAt, oldAt, newTo, alreadyTo, unmatchedTo}
+use Rattle.plan.specs.Confirmed.{Confirmation, hasBit, bears, given, recorded, contactNumbered, counts, countedAt, newAt, oldAt, newTo, alreadyTo, unmatchedTo}
 use Rattle.entries.specs.Row.{Row}
 use Rattle.entries.specs.Filled.{Said, Answered}
 use Rattle.counted.proofs.AlikeLaws.{no-bit}
@@ -27,7 +27,7 @@ use Rattle.tallies.specs.Tallies.{target, targetOf, cardFor, unmarked, services
 use Rattle.tallies.specs.declared.Tally.{Tally}
 use Rattle.tallies.specs.declared.Target.{Target}
 use Rattle.cards.specs.Carded.{hitsIn, cardRow}
-use Rattle.cards.specs.Steps.{tallyOver, cardsOver, unseen, confirms, answersIn, targetAt, tallyAt, cardsAt, rowsAt}
+use Rattle.cards.specs.Steps.{unseen, confirms, answersIn, targetAt, tallyAt, cardsAt, rowsAt}
 use Rattle.cards.proofs.FoldLaws.{newOf, oldOf, lostOf, used-over, already-over, unmatched-over, cards-over}
 use Rattle.cards.proofs.ServiceLaws.{isService, bears-given, services-over}
 use Rattle.cards.proofs.RowLaws.{now-fate, now-hit, now-place, given-counted, target-five, target-six}

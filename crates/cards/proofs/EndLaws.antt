@@ -1,19 +1,18 @@
 -- The whole count. Assumes nothing.
 use mathlib.Core.Path.{_≡_, refl, sym, ap, _∙_, subst}
 use mathlib.Core.Bool.{Bool, true, false}
-use mathlib.Core.List.{List, [], _∷_, _++_, map}
+use mathlib.Core.List.{List, []}
 use Prim.Native.Nat.{ℕ, zero, suc, _+_, _-_, _*_, _≤_, _<_}
 use native.Mathlib.Omega.{arith}
-use lib.Dec.{eqb, leb}
+use lib.Dec.{leb}
 use lib.ListN.{length, getD, length-append}
-use lib.Seq.{sets, length-sets}
 use borrow.Author.Tests.{le-leb, lt-leb}
-use Rattle.text.specs.Pick.{pick, both, either}
+use Rattle.text.specs.Pick.{pick}
 use Rattle.text.proofs.BoolLaws.{cases}
 use Rattle.chain.specs.Chain.{col}
 use Rattle.contacts.specs.Contacts.{Contact}
 use Rattle.contacts.specs.Lists.{contactsOf}
-use Rattle.plan.specs.Entry.{Entry, noEntry}
+use Rattle.plan.specs.Entry.{Entry}
 use Rattle.plan.specs.Fates.{fatesIn}
 use Rattle.plan.specs.Confirmed.{newTo, alreadyTo, unmatchedTo}
 use Rattle.tables.specs.Place.{bytes}
@@ -22,9 +21,8 @@ use Rattle.entries.specs.Filled.{Said, Answered}
 use Rattle.counted.specs.Counted.{Marked}
 use Rattle.tallies.specs.Tallies.{servicesIn, Grown}
 use Rattle.tallies.specs.declared.Tally.{Tally}
-use Rattle.cards.specs.declared.Carded.{Carded}
 use Rattle.cards.specs.declared.Carded.the-variants.{Full, Counted}
-use Rattle.cards.specs.Carded.{hitsIn, keptOf, Kept, cardRow, newIn, cardedAs, cardsAfter}
+use Rattle.cards.specs.Carded.{hitsIn, keptOf, newIn, cardedAs, cardsAfter}
 use Rattle.cards.specs.Steps.{Settled, confirms, tallyAt, cardsAt, rowsAt, Ready as ReadyAt}
 use Rattle.cards.proofs.RowLaws.{now-fate}
 use Rattle.cards.proofs.ChainLaws.{Chained, chained-none, chained-more}

@@ -2,20 +2,18 @@
 use mathlib.Core.Path.{_≡_, refl, sym, ap, _∙_}
 use mathlib.Core.Bool.{Bool, true, false, not}
 use mathlib.Core.List.{List, [], _∷_, _++_, map, append-assoc}
-use Prim.Native.Nat.{ℕ, zero, suc, _+_, _*_, _/_, _%_, _≤_, _<_}
+use Prim.Native.Nat.{ℕ, zero, suc, _+_}
 use native.Mathlib.Nat.{add-zero}
 use native.Mathlib.Omega.{arith}
-use lib.Dec.{eqb}
-use lib.ListN.{length, getD, set, length-append}
+use lib.ListN.{length, set, length-append}
 use lib.Seq.{sets}
-use borrow.Author.Tests.{eqb-true, eq-eqb, ne-eqb}
-use Rattle.text.specs.Pick.{pick, both, either}
-use Rattle.text.proofs.BoolLaws.{cases, both-left, both-right}
+use Rattle.text.specs.Pick.{pick, both}
+use Rattle.text.proofs.BoolLaws.{cases}
 use Rattle.tables.specs.declared.Place.{Place}
 use Rattle.confirmations.specs.declared.Answer.{Answer}
-use Rattle.plan.specs.Confirmed.{hasBit, bears, given}
+use Rattle.plan.specs.Confirmed.{hasBit, given}
 use Rattle.entries.specs.Row.{oneIf}
-use Rattle.tallies.specs.Tallies.{target, isNew, isOld, isLost, tallyWith, cardFor, unmarked, bitsOf, servicesIn}
+use Rattle.tallies.specs.Tallies.{target, isNew, isOld, isLost, tallyWith, cardFor}
 use Rattle.tallies.specs.declared.Tally.{Tally}
 use Rattle.tallies.specs.declared.Target.{Target}
 use Rattle.cards.specs.Steps.{tallyOf, cardsOf, tallyOver, cardsOver}

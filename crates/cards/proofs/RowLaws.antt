@@ -1,16 +1,15 @@
 -- What the rows say is what the records say: who is alike, whether a service counts, what a record confirms. Assumes nothing.
 use mathlib.Core.Path.{_≡_, refl, sym, ap, _∙_}
 use mathlib.Core.Bool.{Bool, true, false, not}
-use mathlib.Core.List.{List, [], _∷_, _++_}
-use Prim.Native.Nat.{ℕ, zero, suc, _+_, _-_, _%_, _/_, _≤_, _<_}
+use mathlib.Core.List.{List, [], _∷_}
+use Prim.Native.Nat.{ℕ, zero, suc, _-_, _≤_, _<_}
 use native.Mathlib.Omega.{arith}
 use lib.Dec.{eqb}
 use lib.ListN.{length, getD, length-append, List·getD-append}
 use lib.Seq.{getD-at}
-use borrow.Author.Tests.{eqb-true, eqb-false, eq-eqb, ne-eqb}
-use Rattle.text.specs.Pick.{pick, both, either}
-use Rattle.text.proofs.BoolLaws.{cases, never, both-left, both-right}
-use Rattle.tables.specs.Place.{bytes}
+use borrow.Author.Tests.{eqb-true, eqb-false, ne-eqb}
+use Rattle.text.specs.Pick.{pick, both}
+use Rattle.text.proofs.BoolLaws.{cases}
 use Rattle.chain.specs.Chain.{over, any, col}
 use Rattle.chain.proofs.Chains.{over-same}
 use Rattle.contacts.specs.Contacts.{Contact, idOf, servicesOf}
@@ -23,11 +22,10 @@ use Rattle.dedupe.specs.Views.{keysUnmatched}
 use Rattle.plan.specs.Entry.{Entry, noEntry}
 use Rattle.plan.specs.Fates.{fatesIn}
 use Rattle.plan.specs.Confirmed.{hasBit, bears, given, sameUnmatched, alike, counts, countedAt, noContact, contactNumbered}
-use Rattle.entries.specs.Row.{Row, callIn, modeIn, bandIn, keyIn}
+use Rattle.entries.specs.Row.{Row}
 use Rattle.entries.specs.Filled.{Said, Answered}
 use Rattle.counted.specs.Counted.{rowsAlike, seen}
 use Rattle.tallies.specs.Tallies.{target, targetIn, targetOf}
-use Rattle.tallies.specs.declared.Target.{Target}
 use Rattle.cards.specs.Carded.{hitsIn, keptOf}
 use Rattle.cards.specs.Steps.{unseen, confirms, answersIn}
 use Rattle.cards.proofs.ServiceLaws.{isService, answers-served, given-same}

@@ -2,18 +2,16 @@
 use mathlib.Core.Path.{_≡_, refl, sym, ap, _∙_, subst}
 use mathlib.Core.Bool.{Bool, true, false, not}
 use mathlib.Core.List.{List, [], _∷_}
-use Prim.Native.Nat.{ℕ, zero, suc, _+_, _*_, _/_, _%_}
+use Prim.Native.Nat.{ℕ}
 use lib.Dec.{eqb}
-use lib.ListN.{getD}
 use borrow.Author.Tests.{eqb-true}
-use Rattle.text.specs.Pick.{pick, both, either}
-use Rattle.text.proofs.BoolLaws.{cases, never, both-left, both-right, both-true, either-either, either-none}
-use Rattle.text.proofs.Utf8Laws.{both-no}
+use Rattle.text.specs.Pick.{both, either}
+use Rattle.text.proofs.BoolLaws.{cases, both-left, both-right, both-true, either-either, either-none, both-no}
 use Rattle.tables.specs.declared.Place.{Place}
 use Rattle.confirmations.specs.Confirmations.{answered, attributed, answersOf}
 use Rattle.confirmations.specs.declared.Answer.{Answer}
 use Rattle.plan.specs.Confirmed.{hasBit, bears, given}
-use Rattle.entries.specs.Row.{Row, oneIf}
+use Rattle.entries.specs.Row.{Row}
 use Rattle.tallies.specs.Tallies.{tallyWith, unmarked, bitsOf, servicesIn}
 use Rattle.tallies.specs.declared.Tally.{Tally}
 use Rattle.tallies.specs.declared.Target.{Target}

@@ -2,21 +2,21 @@
 use mathlib.Core.Path.{_≡_, refl, sym, ap, _∙_}
 use mathlib.Core.Bool.{Bool, true, false, not}
 use mathlib.Core.List.{List, [], _∷_}
-use Prim.Native.Nat.{ℕ, _+_, _*_, _%_, _≤_, _<_}
+use Prim.Native.Nat.{ℕ, _%_, _≤_}
 use native.Mathlib.Omega.{arith}
 use lib.Dec.{eqb}
-use lib.ListN.{length, getD, set}
+use lib.ListN.{getD, set}
 use borrow.Author.Tests.{eq-eqb, ne-eqb}
 use Rattle.text.specs.Pick.{pick, both, either}
 use Rattle.chain.specs.Chain.{col}
 use Rattle.confirmations.specs.Confirmations.{unanswered, answersOf}
 use Rattle.confirmations.specs.declared.Answer.{Answer}
 use Rattle.entries.specs.Row.{Row}
-use Rattle.counted.specs.Counted.{codeIn, seen, Marked, marked}
+use Rattle.counted.specs.Counted.{codeIn, seen, marked}
 use Rattle.tallies.specs.Tallies.{targetOf, isNew, tallyWith, cardFor, unmarked, servicesIn, Grown}
 use Rattle.tallies.specs.declared.Tally.{Tally}
 use Rattle.tallies.specs.declared.Target.{Target}
-use Rattle.cards.specs.Steps.{tallyOf, cardsOf, tallyOver, cardsOver, unseen, confirms, answersIn, targetAt, tallyAt, cardsAt, rowsAt, Ready}
+use Rattle.cards.specs.Steps.{tallyOf, cardsOf, tallyOver, cardsOver, unseen, confirms, answersIn, tallyAt, cardsAt, rowsAt, Ready}
 
 module _ (text : List ℕ) (rows : List Row) (k : ℕ) (to : Target) (a : Answer) (t : Tally) (cards : List (List ℕ)) where
   module _ (v : Bool) (ev : v ≡ seen text rows k (a .service)) (p : a .present ≡ true) where

@@ -1,8 +1,7 @@
 -- What the confirmations of a plan come to: those to record, one row each, how many were known already, and how many match no contact.
 -- A row is five numbers: the contact's id, low half first, the service's bit, and where its date stands in the text and how long it is.
-use Prim.Native.Nat.{ℕ, zero, suc, _<_, _≤_}
+use Prim.Native.Nat.{ℕ, zero, suc}
 use mathlib.Core.Path.{_≡_}
-use mathlib.Core.Bool.{Bool}
 use mathlib.Core.List.{List, [], _∷_, _++_, map}
 use lib.Dec.{leb}
 use lib.ListN.{length, getD, drop, replicate}

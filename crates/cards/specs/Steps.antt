@@ -16,7 +16,7 @@ use Rattle.plan.specs.Entry.{Entry}
 use Rattle.entries.specs.Row.{Row, dateIn}
 use Rattle.entries.specs.Filled.{Said, Answered}
 use Rattle.counted.specs.Counted.{codeIn, seen, Marked, marked}
-use Rattle.tallies.specs.Tallies.{targetOf, isNew, tallyWith, cardFor, unmarked, servicesIn}
+use Rattle.tallies.specs.Tallies.{targetOf, isNew, tallyWith, cardFor, unmarked}
 use Rattle.tallies.specs.declared.Tally.{Tally}
 use Rattle.tallies.specs.declared.Target.{Target}
 

@@ -1,8 +1,8 @@
 -- Names in a fixed width. Assumes nothing.
-use mathlib.Core.Path.{_≡_, refl, sym, ap, _∙_}
-use mathlib.Core.Bool.{Bool, true, false}
+use mathlib.Core.Path.{_≡_, refl, ap, _∙_}
+use mathlib.Core.Bool.{Bool, true}
 use mathlib.Core.List.{List, [], _∷_}
-use mathlib.Core.Option.{Option, none, some}
+use mathlib.Core.Option.{none}
 use Prim.Native.Nat.{ℕ, zero, suc, _+_, _≤_, _<_}
 use native.Mathlib.Numerals.{add-one}
 use lib.Dec.{leb}
@@ -19,7 +19,6 @@ use Rattle.tables.specs.Bands.{bands, bandNames}
 use Rattle.tables.specs.Modes.{modes, modeNames}
 use Rattle.tables.specs.Place.{orEmpty, spelled}
 use Rattle.tables.specs.declared.Name.{Name}
-use Rattle.tables.proofs.TableLaws.{name-at}
 use Rattle.tables.proofs.EntryLaws.{spelled-out}
 use Rattle.cells.specs.Cells.{columnOrder}
 use Rattle.cellfields.specs.Fields.{nameAt, columnName}

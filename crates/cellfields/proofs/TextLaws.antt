@@ -2,13 +2,13 @@
 use mathlib.Core.Path.{_≡_, refl, sym, ap, _∙_}
 use mathlib.Core.Bool.{Bool, true, false}
 use mathlib.Core.List.{List, [], _∷_, _++_, append-assoc}
-use mathlib.Core.Option.{Option, none, some}
+use mathlib.Core.Option.{none, some}
 use Prim.Native.Nat.{ℕ, _+_, _/_, _≤_}
 use native.Mathlib.Omega.{arith}
 use lib.Dec.{eqb, ltb}
-use lib.ListN.{length, take, length-append, length-map}
+use lib.ListN.{length, take, length-map}
 use borrow.Author.Tests.{eq-eqb, ne-eqb}
-use Rattle.text.specs.Pick.{pick, both, either}
+use Rattle.text.specs.Pick.{pick, both}
 use Rattle.letters.specs.Capitals.{raised, capitals}
 use Rattle.decimal.specs.Digits.{decimal}
 use Rattle.output.specs.Put.{Put, Room}
@@ -17,12 +17,12 @@ use Rattle.output.proofs.DigitLaws.{decimal-few}
 use Rattle.mhz.specs.Writing.{mhzText}
 use Rattle.mhz.proofs.WriteLaws.{size-is}
 use Rattle.fields.specs.Written.{fieldText}
-use Rattle.fields.specs.Parts.{fieldAs, openText, lengthText, valueText}
+use Rattle.fields.specs.Parts.{fieldAs, openText, lengthText}
 use Rattle.fields.proofs.FieldLaws.{field-parts, field-size}
 use Rattle.tables.specs.Table.{entry}
 use Rattle.tables.specs.Bands.{bandNames}
 use Rattle.tables.specs.Modes.{modeNames}
-use Rattle.tables.specs.Place.{inText, part, value, bytes, orEmpty, spelled, noName, nameOf}
+use Rattle.tables.specs.Place.{part, value, bytes, orEmpty, spelled, noName, nameOf}
 use Rattle.tables.specs.declared.Name.{Name}
 use Rattle.tables.specs.declared.Place.{Place}
 use Rattle.tables.proofs.PlaceLaws.{part-length}
@@ -31,7 +31,7 @@ use Rattle.cells.specs.Cells.{numberText, cellText}
 use Rattle.cells.specs.declared.Cell.{Cell}
 use Rattle.cells.specs.declared.Cell.the-variants.{Dropped, Words, Megahertz, Number}
 use Rattle.cellfields.specs.Fields.{nameAt, columnName, tagText, cellField}
-use Rattle.cellfields.proofs.NameLaws.{band-short, mode-short, column-short, column-capital, column-front}
+use Rattle.cellfields.proofs.NameLaws.{band-short, mode-short, column-capital, column-front}
 
 -- ---- a signed number
 module _ (negative : Bool) (n : ℕ) (t : Bool) (e : t ≡ both negative (ltb 0 n)) where

@@ -1,16 +1,15 @@
 -- Worked examples.
 use mathlib.Core.Path.{_≡_, refl}
-use mathlib.Core.Bool.{true, false}
-use mathlib.Core.List.{[], _∷_}
-use lib.Dec.{ltb}
+use mathlib.Core.Bool.{true}
+use mathlib.Core.List.{[]}
 use Rattle.text.specs.Ascii.{ascii}
 use Rattle.decimal.specs.Digits.{digits, decimal}
 use Rattle.tables.specs.Bands.{bands, bandNames}
 use Rattle.tables.specs.Modes.{modes, modeNames}
-use Rattle.tables.specs.Place.{absent, stands, bandEntry, part, value}
+use Rattle.tables.specs.Place.{stands, bandEntry, part, value}
 use Rattle.model.specs.Answer.{noFrequency}
-use Rattle.cells.specs.Cells.{numberText, cellText, hasValue, wordsCell, bandCell, splitCell}
-use Rattle.cells.specs.declared.Cell.the-variants.{Dropped, Words, Number}
+use Rattle.cells.specs.Cells.{numberText, hasValue, wordsCell, bandCell, splitCell}
+use Rattle.cells.specs.declared.Cell.the-variants.{Dropped, Words}
 
 -- -7, and minus zero
 minus-seven : numberText true 7 ≡ ascii "-7"

@@ -1,6 +1,5 @@
 // What each column of a QSO writes, in byte order of the columns' names.
 ghost use mathlib.Core.Path.{_≡_};
-ghost use Prim.Native.Nat.{_≤_};
 ghost use lib.ListN.{length};
 ghost use Rattle.tables.specs.Place.{bytes};
 ghost use Rattle.cells.specs.Cells.{hasValue, wordsCell, bandCell, splitCell, megahertzCell, entityCell, cellsOf, isDropped};

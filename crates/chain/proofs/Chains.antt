@@ -1,18 +1,16 @@
 -- Laws of chains. Assumes nothing.
 use mathlib.Core.Path.{_≡_, refl, sym, ap, _∙_, subst}
 use mathlib.Core.Bool.{Bool, true, false}
-use mathlib.Core.List.{List, [], _∷_}
+use mathlib.Core.List.{List, []}
 use Prim.Native.Nat.{ℕ, zero, suc, _+_, _-_, _≤_, _<_}
-use native.Mathlib.Nat.{not-suc-le-zero, le-of-suc-le-suc}
 use native.Mathlib.Numerals.{add-one}
 use native.Mathlib.Omega.{arith}
 use lib.Dec.{eqb, ltb}
-use lib.ListN.{length, getD, set, length-set}
+use lib.ListN.{length, getD, set}
 use lib.Seq.{getD-set-same, getD-set-other, set-out}
 use borrow.Author.Tests.{ltb-true, ltb-false, eqb-true, eqb-false, eq-eqb, ne-eqb}
-use Rattle.text.specs.Pick.{pick}
 use Rattle.text.proofs.BoolLaws.{cases, never}
-use Rattle.chain.specs.Chain.{over, any, down, first, orElse, col, inBucket, Linked, Pushed}
+use Rattle.chain.specs.Chain.{over, down, col, inBucket, Linked, Pushed}
 
 module _ {A : Type 0} (p : ℕ → Bool) (f : ℕ → A → A) (z : A) where
   pub over-hit : (k : ℕ) → p k ≡ true → over p f z (suc k) ≡ f k (over p f z k)

@@ -1,7 +1,7 @@
 -- A walk down a chain, in search of what passes P. Assumes nothing.
 use mathlib.Core.Path.{_≡_, refl, sym, ap, _∙_}
 use mathlib.Core.Bool.{Bool, true, false}
-use Prim.Native.Nat.{ℕ, zero, suc, _+_, _-_, _≤_, _<_}
+use Prim.Native.Nat.{ℕ, zero, suc, _-_, _≤_, _<_}
 use native.Mathlib.Omega.{arith}
 use borrow.Author.Tests.{eqb-true, eq-eqb}
 use Rattle.text.specs.Pick.{pick}
@@ -26,7 +26,7 @@ or-none : (a : ℕ) → a ≡ orElse a 0
 or-none zero = refl
 or-none (suc a) = refl
 
-or-or : (a j best : ℕ) → orElse (orElse a (suc j)) best ≡ orElse a (suc j)
+pub or-or : (a j best : ℕ) → orElse (orElse a (suc j)) best ≡ orElse a (suc j)
 or-or zero j best = refl
 or-or (suc a) j best = refl
 

@@ -1,19 +1,16 @@
 -- From what the phases leave to the definition. Assumes nothing.
 use mathlib.Core.Path.{_≡_, refl, sym, ap, _∙_}
-use mathlib.Core.Bool.{Bool, true, false}
+use mathlib.Core.Bool.{true, false}
 use mathlib.Core.List.{List, [], _∷_, _++_, map}
 use Prim.Native.Nat.{ℕ, zero, suc, _+_, _-_, _≤_, _<_}
 use native.Mathlib.Nat.{sub-zero, zero-add}
 use native.Mathlib.Omega.{arith}
-use lib.IntN.{ℤ}
 use lib.Dec.{leb}
 use lib.ListN.{length, getD, take, drop, replicate, length-map}
 use lib.Seq.{sets, sets-eq, length-take-le}
 use borrow.Author.Tests.{leb-true}
-use Rattle.text.specs.Pick.{pick}
 use Rattle.text.proofs.BoolLaws.{cases}
 use Rattle.chain.specs.Chain.{col}
-use Rattle.reader.specs.Table.{zeros}
 use Rattle.indexing.proofs.BuildLaws.{drop-replicate}
 use Rattle.plan.specs.Plan.{Plan}
 use Rattle.entries.specs.Row.{Row, noRow}
@@ -21,7 +18,7 @@ use Rattle.cards.specs.Carded.{cardRow, noCard}
 use Rattle.cards.specs.declared.Carded.{Carded}
 use Rattle.cards.specs.declared.Carded.the-variants.{Counted, Full}
 use Rattle.wiped.specs.Kept.{keptRow, keptRows}
-use Rattle.closing.specs.Phases.{Searched, countedBy, Recorded}
+use Rattle.closing.specs.Phases.{countedBy, Recorded}
 use Rattle.closing.specs.Closed.{fateRows, padded, closedTable, closedFates, closedCards, Closed}
 
 -- ---- rows by their fates and reasons

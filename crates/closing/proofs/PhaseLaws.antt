@@ -1,24 +1,23 @@
 -- The phases one after the other: what the rows say stays said, and in the end they have the plan's fates. Assumes nothing.
 use mathlib.Core.Path.{_≡_, refl, sym, ap, _∙_}
 use mathlib.Core.Bool.{Bool}
-use mathlib.Core.List.{List, [], _∷_, _++_, map}
-use Prim.Native.Nat.{ℕ, zero, suc, _+_, _/_, _≤_, _<_}
+use mathlib.Core.List.{List, [], map}
+use Prim.Native.Nat.{ℕ, zero, suc, _/_, _≤_, _<_}
 use native.Mathlib.Omega.{arith}
 use lib.IntN.{ℤ}
-use lib.ListN.{length, getD, take, drop, length-map}
+use lib.ListN.{length, getD, take, length-map}
 use lib.Seq.{take-suc, take-all}
 use Rattle.chain.specs.Chain.{col}
 use Rattle.refusals.specs.declared.Refusal.{Refusal}
 use Rattle.adif.specs.Records.{records, refused}
 use Rattle.adif.specs.Reading.{RowsRead, readText}
 use Rattle.reader.specs.Table.{answerOf}
-use Rattle.reader.specs.declared.Reading.{Reading}
 use Rattle.reader.specs.declared.Reading.the-variants.{Read, Refused as Unread}
 use Rattle.contacts.specs.Lists.{contactsOf}
 use Rattle.search.specs.Search.{placeOf}
 use Rattle.plan.specs.Entry.{Entry, noEntry}
 use Rattle.plan.specs.Fates.{found, fatesIn}
-use Rattle.plan.specs.Plan.{Plan, planFrom, planned, reasonsOf, hitsOf, fatesOf}
+use Rattle.plan.specs.Plan.{Plan, planFrom, planned, hitsOf, fatesOf}
 use Rattle.plan.proofs.FateLaws.{fates-many}
 use Rattle.entries.specs.Row.{Row}
 use Rattle.entries.specs.Filled.{ReadInto, entriesRead, Says, Answers, Said, Answered}

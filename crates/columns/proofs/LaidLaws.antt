@@ -12,7 +12,6 @@ use Rattle.letters.specs.Capitals.{raised, capitals}
 use Rattle.letters.specs.Same.{same, sameRaised}
 use Rattle.letters.proofs.SameLaws.{same-refl, same-raised-true}
 use Rattle.tables.specs.Table.{firstFrom, named}
-use Rattle.tables.specs.declared.Found.{Found}
 use Rattle.tables.specs.declared.Found.the-variants.{At, Nothing}
 use Rattle.tables.proofs.Tested.{all, pairs, all-at}
 use Rattle.columns.specs.Columns.{columnNames, columnNamed}

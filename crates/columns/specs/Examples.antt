@@ -1,7 +1,6 @@
 -- Worked examples.
 use mathlib.Core.Path.{_≡_, refl}
-use mathlib.Core.List.{List, []}
-use Prim.Native.Nat.{ℕ}
+use mathlib.Core.List.{[]}
 use lib.ListN.{getD}
 use Rattle.text.specs.Ascii.{ascii}
 use Rattle.letters.specs.Capitals.{raised}

@@ -4,13 +4,11 @@ use mathlib.Core.Bool.{Bool, true, false, not}
 use mathlib.Core.List.{List, [], _∷_, map}
 use Prim.Native.Nat.{ℕ, _+_, _-_, _≤_, _<_}
 use native.Mathlib.Omega.{arith}
-use lib.Dec.{eqb}
-use lib.ListN.{length, getD, take, List·getD-map}
-use lib.Seq.{getD-take}
-use borrow.Author.Tests.{not-true, eqb-true, eq-eqb}
-use Rattle.text.specs.Pick.{pick, both, either}
+use lib.ListN.{getD, take, List·getD-map}
+use borrow.Author.Tests.{not-true}
+use Rattle.text.specs.Pick.{both, either}
 use Rattle.text.specs.Ascii.{ascii}
-use Rattle.letters.specs.Capitals.{raised, capitals}
+use Rattle.letters.specs.Capitals.{raised}
 use Rattle.letters.specs.Same.{sameRaised}
 use Rattle.letters.proofs.SameLaws.{same-raised-true}
 use Rattle.rowcheck.specs.Check.{Row, nameIn}
@@ -20,8 +18,8 @@ use Rattle.tables.specs.declared.Place.{Place}
 use Rattle.tables.specs.Place.{valuePlace}
 use Rattle.confirmations.specs.declared.Said.{Said}
 use Rattle.confirmations.specs.declared.Heard.{Heard}
-use Rattle.confirmations.specs.Confirmations.{named, begins}
-use Rattle.confirmations.specs.Heard.{saidOf, heardOf, saidWith, heardWith, telling}
+use Rattle.confirmations.specs.Confirmations.{begins}
+use Rattle.confirmations.specs.Heard.{heardOf, saidWith, heardWith, telling}
 
 -- ---- two names
 module _ (name wanted dated : List ℕ) (v : Place) (was : Said) (a : Bool) (ea : a ≡ sameRaised name wanted) (b : Bool) (eb : b ≡ sameRaised name dated) where

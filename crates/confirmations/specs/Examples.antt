@@ -1,16 +1,14 @@
 -- Worked examples.
 use mathlib.Core.Path.{_≡_, refl}
-use mathlib.Core.Bool.{true, false}
-use mathlib.Core.List.{List, [], _∷_, _++_}
+use mathlib.Core.Bool.{true}
+use mathlib.Core.List.{List, [], _∷_}
 use Prim.Native.Nat.{ℕ}
-use lib.ListN.{length}
 use Rattle.text.specs.Ascii.{ascii}
 use Rattle.text.specs.Walk.{lead}
 use Rattle.text.specs.Space.{space1, space2, space3, space80, spaceLen, spaceBack, width, trimStart, trimEnd, trimmed, blank}
 use Rattle.letters.specs.Capitals.{raised}
 use Rattle.letters.specs.Same.{sameRaised}
-use Rattle.rowcheck.specs.Check.{Row}
-use Rattle.tables.specs.Place.{absent, stands, part}
+use Rattle.tables.specs.Place.{stands, part}
 use Rattle.tables.specs.declared.Place.{Place}
 use Rattle.confirmations.specs.declared.Answer.{Answer}
 use Rattle.confirmations.specs.Confirmations.{says, dateAt, answered, unanswered, attributed, stood, answersOf}

@@ -1,6 +1,6 @@
 -- What one pass over a record's rows keeps: for each service the value that tells and the one with the date, and whether the fields are
 -- there that tell by their names alone.
-use mathlib.Core.Bool.{Bool, true, false, not}
+use mathlib.Core.Bool.{Bool, not}
 use mathlib.Core.List.{List, [], _∷_}
 use Prim.Native.Nat.{ℕ}
 use lib.Dec.{eqb}

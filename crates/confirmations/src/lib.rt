@@ -3,7 +3,6 @@ ghost use mathlib.Core.Path.{_≡_};
 ghost use mathlib.Core.List.{[]};
 ghost use Prim.Native.Nat.{_+_, _*_, _≤_};
 ghost use lib.ListN.{length};
-ghost use Rattle.rowcheck.specs.Check.{nameIn};
 ghost use Rattle.writer.specs.Rows.{rowsFrom};
 ghost use Rattle.confirmations.specs.Confirmations.{begins, says, dateAt, unanswered, attributed, stood, answersOf};
 ghost use Rattle.confirmations.specs.Heard.{saidOf, heardOf, saidWith, heardWith, telling, answerBy, eqslBy, cardBy, answersBy};

@@ -1,14 +1,14 @@
 -- Numbers, texts and entries of a list. Assumes nothing.
-use mathlib.Core.Path.{_≡_, refl, sym, ap, _∙_}
+use mathlib.Core.Path.{_≡_, refl, sym, _∙_}
 use mathlib.Core.Bool.{Bool, true, false, not}
-use mathlib.Core.List.{List, [], _∷_}
+use mathlib.Core.List.{List, []}
 use Prim.Native.Nat.{ℕ, zero, suc, _+_, _-_, _*_, _≤_, _<_}
 use native.Mathlib.Omega.{arith}
 use lib.ListN.{length, getD, take, drop, length-drop, drop-of-length-le}
 use lib.Seq.{take-all, take-nil, getD-drop, getD-take}
-use lib.Dec.{eqb, leb, ltb}
+use lib.Dec.{eqb, leb}
 use borrow.Author.Tests.{not-true, not-false, le-leb, lt-leb, eq-eqb, ne-eqb}
-use Rattle.text.specs.Pick.{pick, both}
+use Rattle.text.specs.Pick.{both}
 use Rattle.decimal.specs.Decimal.{allDigits}
 use Rattle.contacts.specs.Contacts.{isDate, isTime, sound, soundHead, soundTexts}
 use Rattle.contacts.specs.Lists.{numberAt, textAt, after, callAt, dateAt, timeAt, bandAt, modeAt, endAt, idAt, servicesAt, contactAt, fits, goodAt}

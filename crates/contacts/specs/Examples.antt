@@ -1,15 +1,13 @@
 -- Worked examples.
 use mathlib.Core.Path.{_≡_, refl}
-use mathlib.Core.Bool.{true, false}
 use mathlib.Core.List.{List, [], _∷_, _++_}
 use Prim.Native.Nat.{ℕ}
 use Rattle.text.specs.Ascii.{ascii}
 use Rattle.text.specs.Walk.{lead}
 use Rattle.text.specs.Utf8.{charLen, longChar, second3, second4, validUpTo, utf8}
 use Rattle.refusals.specs.declared.Refusal.the-variants.{OtherVersion, MalformedList, IdsNotRising}
-use Rattle.contacts.specs.Contacts.{Contact, contact, plain, isDate, isTime, soundHead, soundTexts, sound, soundFrom, bytesOf, bodyText, entryText, entriesText, listText, largest}
+use Rattle.contacts.specs.Contacts.{Contact, contact, plain, isDate, isTime, soundHead, soundTexts, sound, bytesOf, bodyText, entryText, entriesText, listText, largest}
 use Rattle.contacts.specs.Lists.{numberAt, textAt, after, callAt, dateAt, timeAt, bandAt, modeAt, endAt, idAt, servicesAt, contactAt, fits, goodAt, entriesFrom, countOf, listedAs, contactsFrom, contactsOf, freshBy, freshAgainst}
-use Rattle.contacts.specs.declared.Listed.{Listed}
 use Rattle.contacts.specs.declared.Listed.the-variants.{Marked, Refused}
 use Rattle.contacts.specs.declared.Freshness.the-variants.{Fresh, Stale}
 

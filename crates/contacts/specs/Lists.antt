@@ -7,9 +7,8 @@ use Prim.Native.Nat.{ℕ, zero, suc, _+_, _*_, _≤_, _<_}
 use lib.ListN.{length, getD, take, drop}
 use lib.Dec.{eqb, leb, ltb}
 use Rattle.text.specs.Pick.{pick, both}
-use Rattle.refusals.specs.declared.Refusal.{Refusal}
 use Rattle.refusals.specs.declared.Refusal.the-variants.{TooLong, OtherVersion, MalformedList, IdsNotRising}
-use Rattle.contacts.specs.Contacts.{Contact, contact, idOf, sound, soundFrom, listText, largest}
+use Rattle.contacts.specs.Contacts.{Contact, contact, sound, soundFrom, listText}
 use Rattle.contacts.specs.declared.Listed.{Listed}
 use Rattle.contacts.specs.declared.Listed.the-variants.{Marked, Refused}
 use Rattle.contacts.specs.declared.Freshness.{Freshness}

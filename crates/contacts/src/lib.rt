@@ -1,8 +1,8 @@
 // The contact list: one lent list of bytes that stands in the place of rigflow's database. It is checked whole before anything else is
 // done with it; what it is known by is its mark, the count and the largest id.
 ghost use mathlib.Core.Path.{_≡_};
-ghost use Prim.Native.Nat.{ℕ, _+_, _*_, _≤_, _<_};
-ghost use lib.ListN.{length, getD};
+ghost use Prim.Native.Nat.{_+_, _*_, _≤_, _<_};
+ghost use lib.ListN.{length};
 ghost use Rattle.contacts.specs.Contacts.{plain, isDate, isTime, soundHead, soundTexts};
 ghost use Rattle.contacts.specs.Lists.{numberAt, textAt, after, endAt, idAt, goodAt, entriesFrom, listedAs, freshAgainst, Few};
 use decimal::all_digits;

@@ -1,18 +1,16 @@
 -- A service's bit, and two records that confirm the same thing. Assumes nothing.
-use mathlib.Core.Path.{_≡_, refl, sym, ap, _∙_}
+use mathlib.Core.Path.{_≡_, refl, sym, _∙_}
 use mathlib.Core.Bool.{Bool, true, false}
-use mathlib.Core.List.{List, []}
-use Prim.Native.Nat.{ℕ, zero, suc, _/_, _%_, _≤_, _<_}
+use mathlib.Core.List.{List}
+use Prim.Native.Nat.{ℕ, zero, suc, _/_, _%_}
 use native.Mathlib.Nat.{zero-div}
 use native.Mathlib.Omega.{arith}
 use lib.ListN.{getD}
 use lib.Dec.{eqb, ltb}
 use borrow.Author.Tests.{eqb-true, eq-eqb, ne-eqb, lt-ltb}
-use Rattle.text.specs.Pick.{pick, both}
+use Rattle.text.specs.Pick.{both}
 use Rattle.text.specs.Space.{trimmed}
-use Rattle.text.proofs.BoolLaws.{cases, never, both-left, both-right}
-use Rattle.text.proofs.Utf8Laws.{both-no}
-use Rattle.letters.specs.Capitals.{capitals}
+use Rattle.text.proofs.BoolLaws.{cases, never, both-left, both-right, both-no, both-yes}
 use Rattle.letters.specs.Same.{same, sameRaised}
 use Rattle.letters.proofs.SameLaws.{same-true, same-raised-true}
 use Rattle.tables.specs.Place.{bytes}
@@ -65,10 +63,6 @@ module _ (text : List ℕ) (r s : Row) where
     pub same-key : (t : Bool) → g ≡ f → (f ≡ 5 → ⊥) → t ≡ keysTested text r s → t ≡ rowsTested text r s
     unfolding rowsTested
     same-key t e n et = rw (eq-eqb (getD r 0 0) (getD s 0 0) (sym eg ∙ e ∙ ef), ne-eqb (getD s 0 0) 5 (λ z. n (ef ∙ z))) et
-
-  both-yes : (a : Bool) → both a true ≡ a
-  both-yes true = refl
-  both-yes false = refl
 
   module _ (v p : ℕ) (t : Bool) (ep : p ≡ getD r 24 0) (et : t ≡ hasBit p v) where
     pub not-served : t ≡ false → false ≡ both (rowsTested text r s) (hasBit (getD r 24 0) v)

@@ -1,17 +1,16 @@
 -- A record put into its chain. Assumes nothing.
-use mathlib.Core.Path.{_≡_, refl, sym, ap, _∙_}
-use mathlib.Core.Bool.{Bool, true, false}
-use mathlib.Core.List.{List, [], _∷_}
-use Prim.Native.Nat.{ℕ, suc, _+_, _%_, _≤_, _<_}
+use mathlib.Core.Path.{_≡_, refl, _∙_}
+use mathlib.Core.List.{List, []}
+use Prim.Native.Nat.{ℕ, _+_, _%_, _≤_, _<_}
 use native.Mathlib.Nat.{mod-lt}
 use native.Mathlib.Numerals.{add-one}
 use native.Mathlib.Omega.{arith}
 use lib.ListN.{length, getD, set, drop, length-set}
 use lib.Seq.{drop-set-lt}
-use Rattle.chain.specs.Chain.{col, Linked, Pushed}
+use Rattle.chain.specs.Chain.{col, Pushed}
 use Rattle.chain.proofs.Chains.{kept, kept-of, stored, other}
 use Rattle.entries.specs.Row.{Row}
-use Rattle.counted.specs.Counted.{codeIn, withServices, withHead, serviced, headed, marked}
+use Rattle.counted.specs.Counted.{codeIn, withServices, withHead, serviced, marked}
 
 pub mark-is : (rows : List Row) (n k p was services : ℕ) (x y : Row) → p ≡ codeIn (getD rows k []) → was ≡ getD (getD rows (p % n) []) 25 0 → x ≡ withServices (getD rows k []) services was → y ≡ withHead (getD (set rows k x) (p % n) []) (k + 1)
     → set (set rows k x) (p % n) y ≡ marked rows (codeIn (getD rows k []) % n) k services

@@ -1,14 +1,14 @@
 -- The walk down the chain of a record's code finds whether a service counted before. Assumes nothing.
-use mathlib.Core.Path.{_≡_, refl, sym, ap, _∙_}
+use mathlib.Core.Path.{_≡_, ap, _∙_}
 use mathlib.Core.Bool.{Bool, true, false}
 use mathlib.Core.List.{List, []}
-use Prim.Native.Nat.{ℕ, suc, _-_, _%_, _≤_, _<_}
+use Prim.Native.Nat.{ℕ, _-_, _%_, _<_}
 use native.Mathlib.Nat.{mod-lt}
 use native.Mathlib.Omega.{arith}
 use lib.ListN.{length, getD}
-use Rattle.text.specs.Pick.{pick, both}
+use Rattle.text.specs.Pick.{both}
 use Rattle.text.proofs.BoolLaws.{both-left, both-right}
-use Rattle.chain.specs.Chain.{any, col, Linked}
+use Rattle.chain.specs.Chain.{any, col}
 use Rattle.chain.proofs.Walks.{Any, any-start, any-hit, any-on, any-end, next-less}
 use Rattle.plan.specs.Confirmed.{hasBit}
 use Rattle.entries.specs.Row.{Row}

@@ -5,11 +5,9 @@ ghost use Prim.Native.Nat.{_%_, _≤_, _<_};
 ghost use lib.ListN.{length, getD};
 ghost use Rattle.text.specs.Pick.{both};
 ghost use Rattle.plan.specs.Confirmed.{hasBit};
-ghost use Rattle.entries.specs.Row.{keyIn};
 ghost use Rattle.counted.specs.Counted.{keysTested, rowsTested, codeIn, seen, Marked, withServices, withHead, marked};
-use dedupe::Key;
+use entries::key_in;
 use entries::number_in;
-use tables::Place;
 
 const CONFIRMED: usize = 5;
 
@@ -21,28 +19,6 @@ pub fn has_service(byte: u32, s: u32) -> bool
         return false;
     }
     byte / s % 2 == 1
-}
-
-fn key_in(r: [u32; 28]) -> Key
-    ensures { λ x. ⌜ x ≡ keyIn r ⌝ }
-{
-    Key {
-        call: Place {
-            kind: r[5],
-            start: r[6],
-            len: r[7],
-        },
-        mode: Place {
-            kind: r[8],
-            start: r[9],
-            len: r[10],
-        },
-        band: Place {
-            kind: r[11],
-            start: r[12],
-            len: r[13],
-        },
-    }
 }
 
 // The code, then the texts.

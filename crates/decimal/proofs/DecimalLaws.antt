@@ -10,7 +10,7 @@ use lib.ListN.{length, getD, drop, drop-of-length-le}
 use lib.Seq.{drop-cons}
 use borrow.Author.Tests.{le-leb, lt-leb, lt-ltb, le-ltb, eq-eqb, ne-eqb, not-true, not-false}
 use Rattle.text.specs.Pick.{both, within}
-use Rattle.text.proofs.Utf8Laws.{both-no}
+use Rattle.text.proofs.BoolLaws.{both-no}
 use Rattle.decimal.specs.Decimal.{allDigits, number, digitsAfter, digitsOf}
 use Rattle.decimal.specs.declared.Unsigned.{Unsigned}
 use Rattle.decimal.specs.declared.Unsigned.the-variants.{Is, Not}

@@ -5,13 +5,13 @@ use mathlib.Core.List.{List, [], _∷_, _++_}
 use Prim.Native.Nat.{ℕ, zero, suc, _+_, _-_, _*_, _/_, _%_, _^_, _≤_, _<_}
 use native.Mathlib.Nat.{pow-suc, div-lt-iff-lt-mul}
 use native.Mathlib.Omega.{arith}
-use lib.ListN.{length, getD}
+use lib.ListN.{length}
 use lib.Dec.{ltb, lit<, eqb}
 use borrow.Author.Tests.{ltb-true, lt-ltb, le-leb, ne-eqb}
 use Rattle.text.specs.Pick.{pick}
 use Rattle.decimal.specs.Decimal.{allDigits, number, digitsAfter, digitsOf, leads, unsignedOf}
 use Rattle.decimal.specs.Digits.{digits, decimal}
-use Rattle.decimal.specs.declared.Unsigned.the-variants.{Is, Not}
+use Rattle.decimal.specs.declared.Unsigned.the-variants.{Is}
 
 -- every byte is a digit
 abbrev pub Digits : List ℕ → Type 0

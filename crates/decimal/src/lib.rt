@@ -1,7 +1,6 @@
 // Numbers in decimal digits, as Rust's `parse` reads them.
 ghost use mathlib.Core.Path.{_≡_};
-ghost use lib.ListN.{drop};
-ghost use Rattle.decimal.specs.Decimal.{allDigits, digitsAfter, digitsOf, unsignedOf, aboveZero, belowZero, signedOf};
+ghost use Rattle.decimal.specs.Decimal.{allDigits, digitsOf, unsignedOf, aboveZero, belowZero, signedOf};
 
 pub enum Unsigned {
     Is(u64),

@@ -1,17 +1,16 @@
 -- What two places stand for compares as the bytes that are shown of them do. Assumes nothing.
 use mathlib.Core.Path.{_≡_, refl, sym, ap, _∙_}
-use mathlib.Core.Bool.{Bool, true, false, not}
+use mathlib.Core.Bool.{Bool, true, false}
 use mathlib.Core.List.{List, [], _∷_, map}
 use Prim.Native.Nat.{ℕ, suc, _+_, _≤_, _<_}
 use native.Mathlib.Numerals.{add-one}
 use native.Mathlib.Omega.{arith}
-use lib.ListN.{length, getD, take, drop, drop-of-length-le, length-map}
+use lib.ListN.{length, getD, drop, drop-of-length-le, length-map}
 use lib.Seq.{drop-cons}
 use lib.Dec.{eqb}
 use borrow.Author.Tests.{eq-eqb, ne-eqb}
-use Rattle.text.specs.Pick.{pick, both, either}
-use Rattle.text.specs.Space.{trimmed}
-use Rattle.letters.specs.Capitals.{raised, capitals}
+use Rattle.text.specs.Pick.{pick}
+use Rattle.letters.specs.Capitals.{raised}
 use Rattle.letters.specs.Same.{same}
 use Rattle.letters.proofs.SameLaws.{lengths-differ}
 use Rattle.dedupe.specs.Views.{cased}

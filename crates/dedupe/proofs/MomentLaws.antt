@@ -3,19 +3,18 @@
 use mathlib.Core.Path.{_≡_, refl, sym, ap, _∙_}
 use mathlib.Core.Bool.{Bool, true, false}
 use mathlib.Core.List.{List, [], _∷_}
-use Prim.Native.Nat.{ℕ, zero, suc, _+_, _-_, _≤_, _<_}
+use Prim.Native.Nat.{ℕ, zero, suc, _-_, _≤_}
 use native.Mathlib.Omega.{arith}
 use lib.ListN.{length, take, drop, length-map}
 use lib.Dec.{eqb, leb}
 use borrow.Author.Tests.{leb-true, le-leb, lt-leb, ne-eqb}
-use Rattle.text.specs.Pick.{pick, both, within}
+use Rattle.text.specs.Pick.{both, within}
 use Rattle.text.specs.Space.{space1, space2, space3, space80, spaceLen, spaceBack, width, trimStart, trimEnd, trimmed}
 use Rattle.text.specs.Walk.{lead}
-use Rattle.text.proofs.BoolLaws.{both-left, both-right}
-use Rattle.text.proofs.Utf8Laws.{both-no}
+use Rattle.text.proofs.BoolLaws.{both-left, both-right, both-no}
 use Rattle.letters.specs.Capitals.{raised, capitals}
 use Rattle.letters.proofs.SpaceLaws.{trim-capitals}
-use Rattle.decimal.specs.Decimal.{allDigits, number, digitsAfter, digitsOf}
+use Rattle.decimal.specs.Decimal.{allDigits, digitsAfter, digitsOf}
 use Rattle.decimal.specs.declared.Unsigned.{Unsigned}
 use Rattle.decimal.specs.declared.Unsigned.the-variants.{Is, Not}
 use Rattle.tables.specs.Table.{entry}
@@ -24,7 +23,7 @@ use Rattle.tables.specs.Modes.{modes, modeNames}
 use Rattle.tables.specs.Place.{place, part, value, orEmpty, bytes}
 use Rattle.tables.specs.declared.Place.{Place}
 use Rattle.tables.proofs.Tested.{all}
-use Rattle.times.specs.Moments.{dateOf, clockOf, momentBy, momentOf}
+use Rattle.times.specs.Moments.{dateOf, clockOf, momentOf}
 use Rattle.times.specs.declared.Moment.{Moment}
 
 -- ---- digits have no case

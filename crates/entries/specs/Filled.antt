@@ -1,9 +1,8 @@
 -- The rows of a plan, one for each record that was read, and what they say of the records as the plan's definition sees them.
 use Prim.Native.Nat.{ℕ, _+_, _*_, _/_, _≤_, _<_}
 use mathlib.Core.Path.{_≡_}
-use mathlib.Core.Bool.{Bool}
 use mathlib.Core.List.{List, []}
-use lib.ListN.{length, getD, drop}
+use lib.ListN.{length, getD}
 use Rattle.tables.specs.Place.{bytes}
 use Rattle.chain.specs.Chain.{col}
 use Rattle.adif.specs.Reading.{readText}

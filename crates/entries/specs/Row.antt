@@ -6,12 +6,12 @@
 -- confirmation, 24 the services that count at it, as bits, 25 and 26 the chains of records at which a service counts, 27 the place of the
 -- found contact's entry in the list. A number of 64 bits has its low half first.
 use Prim.Native.Nat.{ℕ}
-use mathlib.Core.Bool.{Bool, true, false}
+use mathlib.Core.Bool.{Bool}
 use mathlib.Core.List.{List, [], _∷_}
-use lib.ListN.{length, getD, replicate}
+use lib.ListN.{getD, replicate}
 use Rattle.text.specs.Pick.{pick}
 use Rattle.text.specs.Space.{trimmed}
-use Rattle.tables.specs.Place.{place, bytes}
+use Rattle.tables.specs.Place.{place}
 use Rattle.tables.specs.declared.Place.{Place}
 use Rattle.times.specs.Moments.{momentOf}
 use Rattle.times.specs.declared.Moment.{Moment}

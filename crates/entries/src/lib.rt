@@ -9,7 +9,7 @@ ghost use Rattle.adif.specs.Reading.{readText};
 ghost use Rattle.writer.specs.Rows.{rowsFrom};
 ghost use Rattle.plan.specs.Entry.{isRefused};
 ghost use Rattle.plan.specs.Fates.{bearsAny};
-ghost use Rattle.entries.specs.Row.{oneIf, rowWith, entryRow};
+ghost use Rattle.entries.specs.Row.{keyIn, oneIf, rowWith, entryRow};
 ghost use Rattle.entries.specs.Filled.{ReadInto, entriesRead, Said, Answered, Bare};
 ghost use Rattle.entries.specs.Walked.{shownAs, judgedAs, judgedOf, sizeIn, entryRows};
 use columns::BAND;
@@ -18,6 +18,7 @@ use columns::MODE;
 use columns::QSO_DATE;
 use columns::TIME_ON;
 use confirmations::Answer;
+use dedupe::Key;
 use model::Qso;
 use refusals::Verdict;
 use tables::Place;
@@ -31,20 +32,33 @@ pub fn number_in(row: [u32; 28], column: usize) -> usize
     row[column] as usize
 }
 
+// The call, mode and band that it says.
+pub fn key_in(row: [u32; 28]) -> Key
+    ensures { λ r. ⌜ r ≡ keyIn row ⌝ }
+{
+    Key {
+        call: Place {
+            kind: row[5],
+            start: row[6],
+            len: row[7],
+        },
+        mode: Place {
+            kind: row[8],
+            start: row[9],
+            len: row[10],
+        },
+        band: Place {
+            kind: row[11],
+            start: row[12],
+            len: row[13],
+        },
+    }
+}
+
 // The code of a record's call, mode and band, and why it is unusable, or 0.
 struct Judged {
     code: u32,
     reason: u32,
-}
-
-// The part of the text at which a place is, and the name where it is not in the text.
-fn shown<'a>(text: &'a [u8], name: &'a [u8], p: Place) -> &'a [u8]
-    ensures { λ r. ⌜ now r ≡ shownAs (now (text .entry)) p (now (name .entry)) ⌝ }
-{
-    if places::in_text(p) {
-        return places::part(text, p);
-    }
-    name
 }
 
 // As `judge`, with the names of the places that are entries.
@@ -66,9 +80,9 @@ fn judge_named(
     requires { ⌜ («call_len» ≤ 12) × («mode_len» ≤ 12) × («band_len» ≤ 12) ⌝ }
     ensures { λ r. ⌜ r ≡ judgedAs (shownAs (now (text .entry)) call (take «call_len» called)) (shownAs (now (text .entry)) mode (take «mode_len» name)) (shownAs (now (text .entry)) band (take «band_len» other)) (part (now (text .entry)) date) (part (now (text .entry)) time) inexact ⌝ }
 {
-    let c = shown(text, &called[..call_len], call);
-    let m = shown(text, &name[..mode_len], mode);
-    let b = shown(text, &other[..band_len], band);
+    let c = dedupe::shown(text, &called[..call_len], call);
+    let m = dedupe::shown(text, &name[..mode_len], mode);
+    let b = dedupe::shown(text, &other[..band_len], band);
     let code = index::code_of(
         text::space::trim(c),
         text::space::trim(m),

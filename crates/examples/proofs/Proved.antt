@@ -8,7 +8,7 @@ use Rattle.text.specs.Walk.{lead, ends}
 use Rattle.text.specs.Find.{other}
 use Rattle.text.specs.Space.{space1, space2, space3, space80, spaceLen, spaceBack, width, trimStart, trimEnd, trimmed}
 use Rattle.text.specs.Utf8.{charLen, longChar, second3, second4, validUpTo}
-use Rattle.text.proofs.Utf8Laws.{both-no}
+use Rattle.text.proofs.BoolLaws.{both-no}
 use Rattle.letters.specs.Capitals.{raised}
 use Rattle.letters.specs.Same.{sameRaised}
 use Rattle.decimal.specs.Decimal.{digitsAfter, digitsOf, leads, unsignedOf}

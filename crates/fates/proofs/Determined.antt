@@ -1,6 +1,6 @@
 -- The public call's promise is met by rows that agree in all but the chains of importable records, numbers 2 and 3 of a row: the planner
 -- wipes them. Assumes nothing.
-use mathlib.Core.Path.{_≡_, sym, ap, _∙_}
+use mathlib.Core.Path.{_≡_, sym, _∙_}
 use mathlib.Core.Bool.{Bool}
 use mathlib.Core.List.{List, []}
 use Prim.Native.Nat.{ℕ, _<_}

@@ -1,7 +1,7 @@
 -- All records settled, one after the other. Assumes nothing.
 use mathlib.Core.Path.{_≡_, refl, sym, ap, _∙_}
 use mathlib.Core.Bool.{Bool, true, false}
-use mathlib.Core.List.{List, [], _∷_, _++_}
+use mathlib.Core.List.{List, [], _∷_}
 use Prim.Native.Nat.{ℕ, _+_, _≤_, _<_}
 use native.Mathlib.Numerals.{add-one}
 use native.Mathlib.Omega.{arith}
@@ -13,10 +13,9 @@ use mir.Syntax.{w64}
 use mir.Val.{SFits, toZ, ofZ}
 use mir.ValLaws.{toZ-ofZ}
 use borrow.Author.Tests.{eqb-true, eqb-false}
-use Rattle.text.specs.Pick.{pick, both}
+use Rattle.text.specs.Pick.{both}
 use Rattle.text.proofs.BoolLaws.{cases}
-use Rattle.tables.specs.Place.{bytes}
-use Rattle.times.specs.Window.{isWithin, limitOf}
+use Rattle.times.specs.Window.{limitOf}
 use Rattle.dedupe.specs.Keys.{inFile}
 use Rattle.dedupe.specs.Views.{keysInFile}
 use Rattle.chain.specs.Chain.{any, col}
@@ -24,10 +23,10 @@ use Rattle.chain.proofs.Chains.{over-same}
 use Rattle.search.specs.Search.{near}
 use Rattle.search.proofs.FindLaws.{near-within}
 use Rattle.plan.specs.Entry.{Entry, noEntry}
-use Rattle.plan.specs.Fates.{fateOf, bearsAny, repeats, repeated, fateAt, fatesTo}
+use Rattle.plan.specs.Fates.{bearsAny, repeats, repeated, fateAt, fatesTo}
 use Rattle.plan.proofs.FateLaws.{fates-many}
-use Rattle.entries.specs.Row.{Row, callIn, modeIn, bandIn, momentIn, oneIf}
-use Rattle.entries.specs.Filled.{Says, Said, Bare}
+use Rattle.entries.specs.Row.{Row, oneIf}
+use Rattle.entries.specs.Filled.{Said, Bare}
 use Rattle.infile.specs.Infile.{alike, repeatedIn, codeIn, Chained}
 use Rattle.infile.proofs.LinkLaws.{chained-none}
 use Rattle.fates.specs.Fated.{Found, Fated, keptOf, Kept}

@@ -1,20 +1,20 @@
 -- One record settled. Assumes nothing.
-use mathlib.Core.Path.{_≡_, refl, sym, ap, _∙_, subst}
+use mathlib.Core.Path.{_≡_, refl, sym, _∙_, subst}
 use mathlib.Core.Bool.{Bool, true, false}
-use mathlib.Core.List.{List, [], _∷_}
-use Prim.Native.Nat.{ℕ, zero, suc, _+_, _%_, _≤_, _<_}
+use mathlib.Core.List.{List, []}
+use Prim.Native.Nat.{ℕ, _%_, _≤_, _<_}
 use native.Mathlib.Nat.{mod-lt}
 use native.Mathlib.Omega.{arith}
 use lib.ListN.{length, getD, set, drop, length-set}
 use lib.Seq.{drop-set-lt}
-use lib.Dec.{eqb, ltb}
+use lib.Dec.{ltb}
 use borrow.Author.Tests.{lt-ltb, le-ltb}
 use Rattle.text.specs.Pick.{pick}
 use Rattle.chain.specs.Chain.{col}
 use Rattle.chain.proofs.Chains.{kept, kept-of, stored, other}
 use Rattle.plan.specs.Fates.{fateOf}
 use Rattle.entries.specs.Row.{Row}
-use Rattle.infile.specs.Infile.{repeatedIn, Chained, withHead, withNext, nexted, pushed}
+use Rattle.infile.specs.Infile.{repeatedIn, Chained, nexted, pushed}
 use Rattle.infile.proofs.LinkLaws.{codedOf, chained-by, linked-one, passed-one, pushed-length, pushed-kept}
 use Rattle.fates.specs.Fated.{keptOf}
 use Rattle.fates.specs.Steps.{fateIn, withFate, fated, Step}

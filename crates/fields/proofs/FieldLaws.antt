@@ -1,14 +1,15 @@
 -- Texts put one after the other, and a field. Assumes nothing.
 use mathlib.Core.Path.{_≡_, refl, sym, ap, _∙_}
-use mathlib.Core.List.{List, [], _∷_, _++_, append-assoc, map}
+use mathlib.Core.List.{List, [], _++_, append-assoc, map}
 use Prim.Native.Nat.{ℕ, _+_, _≤_, _<_}
 use native.Mathlib.Omega.{arith}
-use lib.ListN.{length, getD, drop, set, length-append, length-map, List·getD-map}
+use lib.ListN.{length, getD, set, length-append, length-map, List·getD-map}
 use lib.Seq.{sets, length-sets}
 use Rattle.letters.specs.Capitals.{raised, capitals}
-use Rattle.decimal.specs.Digits.{digits, decimal}
+use Rattle.decimal.specs.Digits.{decimal}
 use Rattle.output.specs.Put.{Put, Room}
-use Rattle.output.proofs.PutLaws.{sets-append, Half, half-on, half-end, room-first, room-second, room-third, put-three}
+use Rattle.text.proofs.StoreLaws.{sets-append}
+use Rattle.output.proofs.PutLaws.{Half, half-on, half-end, room-first, room-second, room-third, put-three}
 use Rattle.fields.specs.Written.{fieldText}
 use Rattle.fields.specs.Parts.{fieldAs, openText, lengthText, valueText}
 

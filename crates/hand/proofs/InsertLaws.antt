@@ -2,7 +2,7 @@
 -- Assumes nothing.
 use mathlib.Core.Path.{_≡_, refl, sym, _∙_, ap}
 use mathlib.Core.Bool.{Bool, true, false, true≢false, false≢true}
-use mathlib.Core.List.{List, [], _∷_, _++_}
+use mathlib.Core.List.{List, [], _++_}
 use Prim.Native.Nat.{ℕ, suc, _+_, _-_, _≤_, _<_}
 use native.Mathlib.Omega.{arith}
 use native.Mathlib.Numerals.{add-one}
@@ -19,7 +19,6 @@ use Rattle.adif.specs.Records.{placed, put}
 use Rattle.adif.specs.Reading.{Row, part, rowName}
 use Rattle.hand.specs.Rows.{putIn, putFor, Placed, Inserted}
 use Rattle.hand.proofs.PartLaws.{first-decides}
-use Rattle.hand.specs.declared.Kept.{Kept}
 use Rattle.hand.specs.declared.Kept.the-variants.{Used, Full}
 use Rattle.hand.specs.declared.Spot.{Spot}
 

@@ -1,21 +1,14 @@
 -- Rows laid into a table, one after the other. Assumes nothing.
-use mathlib.Core.Path.{_≡_, refl, sym, _∙_, ap}
-use mathlib.Core.List.{List, [], _∷_, _++_, append-assoc, append-nil}
-use Prim.Native.Nat.{ℕ, suc, _+_, _*_, _≤_, _<_}
-use native.Mathlib.Nat.{add-zero}
+use mathlib.Core.Path.{_≡_, refl, ap}
+use mathlib.Core.List.{List, [], _∷_, _++_, append-assoc}
+use Prim.Native.Nat.{ℕ, suc, _+_, _*_, _<_}
 use native.Mathlib.Omega.{arith}
 use native.Mathlib.Numerals.{add-one}
-use lib.ListN.{length, getD, take, drop, set}
+use lib.ListN.{length, getD, take, set}
 use lib.Seq.{length-take-le, take-suc, sets}
+use Rattle.text.proofs.StoreLaws.{sets-append}
 use Rattle.adif.specs.Reading.{Row}
 use Rattle.hand.specs.Rows.{numbered, laid}
-
--- a run of stores, and one run after another
-pub sets-append : (l : List ℕ) (i : ℕ) (vs ws : List ℕ) → sets l i (vs ++ ws) ≡ sets (sets l i vs) (i + length vs) ws
-sets-append l i [] ws = rw add-zero
-sets-append l i (a ∷ vs) ws =
-    let e : suc i + length vs ≡ i + suc (length vs) = omega arith in
-    sets-append (set l i a) (suc i) vs ws ∙ ap (λ (k : ℕ). sets (sets (set l i a) (suc i) vs) k ws) e
 
 laid-append : (n : ℕ) (xs ys : List Row) → laid n (xs ++ ys) ≡ laid n xs ++ laid n ys
 laid-append n [] ys = refl

@@ -2,17 +2,17 @@
 use mathlib.Core.Path.{_≡_, refl, sym, ap, _∙_}
 use mathlib.Core.Bool.{Bool, true, false, not}
 use mathlib.Core.List.{List}
-use Prim.Native.Nat.{ℕ, _+_, _≤_, _<_}
+use Prim.Native.Nat.{ℕ}
 use native.Mathlib.Omega.{arith}
 use lib.ListN.{length}
 use lib.Seq.{sets}
 use lib.Dec.{leb}
-use borrow.Author.Tests.{not-true, not-false, lt-leb, leb-true, leb-false}
-use Rattle.text.specs.Pick.{pick, both}
+use borrow.Author.Tests.{not-true, not-false, leb-true, leb-false}
+use Rattle.text.specs.Pick.{both}
 use Rattle.text.specs.Utf8.{utf8}
 use Rattle.refusals.specs.Written.{fitted}
 use Rattle.refusals.specs.declared.Refusal.{Refusal}
-use Rattle.refusals.specs.declared.Refusal.the-variants.{TooLong, BadRow}
+use Rattle.refusals.specs.declared.Refusal.the-variants.{BadRow}
 use Rattle.refusals.specs.declared.Written.{Written}
 use Rattle.refusals.specs.declared.Written.the-variants.{Bytes, Unwritten}
 use Rattle.refusals.proofs.WrittenLaws.{fits}

@@ -1,14 +1,13 @@
 -- Sizes that stop at 16,777,217. Assumes nothing.
 use mathlib.Core.Path.{_≡_, refl, sym, ap, _∙_}
 use mathlib.Core.Bool.{Bool, true, false}
-use mathlib.Core.List.{List, [], _∷_, _++_}
+use mathlib.Core.List.{List, _++_}
 use Prim.Native.Nat.{ℕ, _+_, _≤_, _<_}
-use native.Mathlib.Nat.{add-zero, zero-add}
+use native.Mathlib.Nat.{zero-add}
 use native.Mathlib.Omega.{arith}
 use lib.ListN.{length, length-append}
 use lib.Dec.{leb}
 use borrow.Author.Tests.{le-leb, lt-leb, leb-true, leb-false}
-use Rattle.text.specs.Pick.{pick}
 use Rattle.fields.specs.Written.{fieldText, endOfHeader}
 use Rattle.fields.specs.Parts.{fieldAs}
 use Rattle.headers.specs.Headers.{adifVersion, programId, programVersion, createdTimestamp, rigflow, exportHeader}

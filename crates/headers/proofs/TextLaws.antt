@@ -1,15 +1,11 @@
 -- The texts in the parts in which they are put. Assumes nothing.
-use mathlib.Core.Path.{_≡_, refl, sym, ap, _∙_}
-use mathlib.Core.Bool.{Bool, true, false}
-use mathlib.Core.List.{List, [], _∷_, _++_, append-assoc, append-nil}
+use mathlib.Core.Path.{_≡_, refl, ap}
+use mathlib.Core.List.{List, _++_, append-assoc}
 use Prim.Native.Nat.{ℕ}
-use Rattle.text.specs.Pick.{pick}
-use Rattle.text.specs.Space.{blank, trimmed}
-use Rattle.adif.specs.Grammar.{Field}
-use Rattle.fields.specs.Written.{fieldText, fieldsText, endOfHeader}
+use Rattle.fields.specs.Written.{fieldText, endOfHeader}
 use Rattle.fields.specs.Parts.{fieldAs}
 use Rattle.output.specs.Put.{Put, Room}
-use Rattle.output.proofs.PutLaws.{put-none, put-then, room-first, room-next}
+use Rattle.output.proofs.PutLaws.{put-then, room-first, room-next}
 use Rattle.headers.specs.Headers.{adifVersion, programId, programVersion, createdTimestamp, rigflow, exportHeader}
 
 -- ---- an export's header

@@ -1,6 +1,5 @@
 -- Worked examples.
 use mathlib.Core.Path.{_≡_, refl}
-use mathlib.Core.List.{[], _∷_}
 use Rattle.letters.specs.Capitals.{raised}
 use Rattle.decimal.specs.Digits.{digits, decimal}
 use Rattle.fields.specs.Written.{fieldText, headerText}

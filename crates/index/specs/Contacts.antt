@@ -1,5 +1,4 @@
 -- A contact of the index as a struct and as fourteen plain numbers. Everything above is said of the numbers: `plain` of the lent structs.
-use Prim.Native.Nat.{ℕ}
 use mathlib.Core.List.{List, [], _∷_, map}
 use lib.ListN.{getD}
 use Rattle.index.specs.Rows.{Row, low, high, joined, noRow}

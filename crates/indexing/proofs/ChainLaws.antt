@@ -1,6 +1,6 @@
 -- Records put into chains. Assumes nothing.
 use mathlib.Core.Path.{_≡_, refl, sym, ap, _∙_, subst, fun-ext}
-use mathlib.Core.List.{List, [], _∷_}
+use mathlib.Core.List.{List, []}
 use Prim.Native.Nat.{ℕ, zero, suc, _+_, _%_, _≤_, _<_}
 use native.Mathlib.Nat.{mod-lt}
 use native.Mathlib.Numerals.{add-one}
@@ -12,7 +12,7 @@ use Rattle.index.specs.Rows.{Row}
 use Rattle.index.specs.Contacts.{contactOf, numbersOf, noContact, plain}
 use Rattle.index.specs.declared.Contact.{Contact}
 use Rattle.index.proofs.ContactLaws.{numbers-back, plain-length, plain-at, plain-set}
-use Rattle.indexing.specs.Index.{withHead, withNext, freeOf, headed, nexted, pushed, bucketOf, chained}
+use Rattle.indexing.specs.Index.{withHead, withNext, freeOf, nexted, pushed, bucketOf, chained}
 
 push-is : (rows : List Row) (b i was : ℕ) (x y : Row) → was ≡ getD (getD rows b []) 0 0 → x ≡ withNext (getD rows i []) was → y ≡ withHead (getD (set rows i x) b []) (i + 1) → set (set rows i x) b y ≡ pushed rows b i
 unfolding pushed

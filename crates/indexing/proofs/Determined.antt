@@ -1,16 +1,14 @@
 -- Each public call's promise is met by one answer. Assumes nothing.
 use mathlib.Core.Path.{refl, sym, _∙_}
 use denote.Ref.{now}
-use Rattle.text.proofs.Once.{Once, OnceWith}
+use Rattle.text.proofs.Once.{Once}
 use Rattle.indexing.proofs.listed_in.Reads as listed-in
 use Rattle.indexing.proofs.listed_in.Kinds as listed-in-kinds
 use Rattle.indexing.proofs.count_in.Reads as count-in
 use Rattle.indexing.proofs.count_in.Kinds as count-in-kinds
-use Rattle.index.specs.Rows.{rowsFrom, noRow}
 use Rattle.index.specs.Contacts.{plain}
 use Rattle.index.proofs.ContactLaws.{plain-once}
 use Rattle.index.proofs.Agree.{Agrees, agree, agree-two}
-use Rattle.indexing.specs.Index.{indexedAs, indexAfter}
 use Rattle.indexing.proofs.fill as fill
 use Rattle.indexing.proofs.build as build
 

@@ -1,6 +1,6 @@
 -- The records of a list, laid one after the other, and zero behind them. Assumes nothing.
 use mathlib.Core.Path.{_≡_, refl, ap, _∙_}
-use mathlib.Core.List.{List, [], _∷_, _++_}
+use mathlib.Core.List.{List, _∷_, _++_}
 use Prim.Native.Nat.{ℕ, zero, suc, _+_, _-_, _≤_, _<_}
 use native.Mathlib.Nat.{sub-zero}
 use native.Mathlib.Numerals.{add-one}
@@ -10,8 +10,7 @@ use lib.Seq.{sets}
 use lib.Dec.{ltb}
 use borrow.Author.Tests.{lt-ltb, le-ltb, ltb-true, ltb-false}
 use Rattle.text.proofs.BoolLaws.{cases}
-use Rattle.contacts.specs.Lists.{entriesFrom, endAt, idAt}
-use Rattle.contacts.specs.declared.Listed.the-variants.{Marked}
+use Rattle.contacts.specs.Lists.{endAt, idAt}
 use Rattle.contacts.proofs.ListLaws.{good-inside, entries-next}
 use Rattle.index.specs.Rows.{Row, rowAt, rowsFrom, noRow}
 use Rattle.index.specs.Contacts.{contactOf, numbersOf, plain}

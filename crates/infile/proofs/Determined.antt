@@ -5,17 +5,12 @@ use denote.Triple.Clauses.{AtExit}
 use denote.Ref.{now}
 use borrow.Fn.Kinds.{Dens, resT, endedOf}
 use Rattle.text.proofs.Once.{Once}
-use Rattle.infile.proofs.key_in.Reads as key-in
-use Rattle.infile.proofs.key_in.Kinds as key-in-kinds
 use Rattle.infile.proofs.moment_in.Reads as moment-in
 use Rattle.infile.proofs.moment_in.Kinds as moment-in-kinds
 use Rattle.infile.proofs.is_repeated.Reads as is-repeated
 use Rattle.infile.proofs.is_repeated.Kinds as is-repeated-kinds
 use Rattle.infile.proofs.push.Reads as push
 use Rattle.infile.proofs.push.Kinds as push-kinds
-
-key-in-once : Once 0 key-in-kinds.ps key-in-kinds.r key-in.Post
-key-in-once κs a x y d e p q = p ∙ sym q
 
 moment-in-once : Once 0 moment-in-kinds.ps moment-in-kinds.r moment-in.Post
 moment-in-once κs a x y d e p q = p ∙ sym q

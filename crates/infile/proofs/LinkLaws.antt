@@ -1,16 +1,14 @@
 -- Rows put into their chains, and rows that stay out of them. Assumes nothing.
 use mathlib.Core.Path.{_≡_, refl, sym, ap, _∙_}
-use mathlib.Core.Bool.{Bool, true, false}
 use mathlib.Core.List.{List, [], _∷_}
-use Prim.Native.Nat.{ℕ, zero, suc, _+_, _%_, _≤_, _<_}
+use Prim.Native.Nat.{ℕ, _+_, _%_, _≤_, _<_}
 use native.Mathlib.Nat.{mod-lt}
 use native.Mathlib.Numerals.{add-one}
 use native.Mathlib.Omega.{arith}
 use lib.ListN.{length, getD, set, length-set}
 use lib.Dec.{eqb}
-use borrow.Author.Tests.{eq-eqb, ne-eqb}
-use Rattle.text.specs.Pick.{pick}
-use Rattle.chain.specs.Chain.{col, Linked, Pushed}
+use borrow.Author.Tests.{ne-eqb}
+use Rattle.chain.specs.Chain.{col, Pushed}
 use Rattle.chain.proofs.Chains.{kept, kept-of, stored, other, linked-more, linked-without, linked-as, linked-by, linked-none}
 use Rattle.entries.specs.Row.{Row}
 use Rattle.infile.specs.Infile.{codeIn, bucketOf, Chained, withHead, withNext, nexted, pushed}

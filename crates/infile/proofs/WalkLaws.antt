@@ -1,25 +1,24 @@
 -- The walk down a chain finds whether an earlier importable record is alike. Assumes nothing.
 use mathlib.Core.Path.{_≡_, refl, sym, ap, _∙_}
 use mathlib.Core.Bool.{Bool, true, false, not}
-use mathlib.Core.List.{List, [], _∷_}
-use Prim.Native.Nat.{ℕ, zero, suc, _+_, _-_, _%_, _≤_, _<_}
+use mathlib.Core.List.{List, []}
+use Prim.Native.Nat.{ℕ, _-_, _%_, _<_}
 use native.Mathlib.Nat.{mod-lt}
 use native.Mathlib.Omega.{arith}
 use lib.ListN.{length, getD}
 use lib.Dec.{eqb}
 use borrow.Author.Tests.{eq-eqb, ne-eqb, not-true, not-false}
-use Rattle.text.specs.Pick.{pick, both}
+use Rattle.text.specs.Pick.{both}
 use Rattle.text.specs.Space.{trimmed}
-use Rattle.text.proofs.BoolLaws.{cases, never, both-left, both-right}
+use Rattle.text.proofs.BoolLaws.{cases, both-left, both-right, both-no, both-yes}
 use Rattle.letters.specs.Same.{same, sameRaised}
 use Rattle.letters.proofs.SameLaws.{same-true, same-raised-true}
 use Rattle.times.specs.declared.Moment.{Moment}
 use Rattle.tables.specs.Place.{bytes}
-use Rattle.tables.specs.declared.Place.{Place}
 use Rattle.dedupe.specs.Keys.{inFile}
 use Rattle.dedupe.specs.Views.{keysInFile}
 use Rattle.dedupe.specs.declared.Key.{Key}
-use Rattle.chain.specs.Chain.{over, col, Linked}
+use Rattle.chain.specs.Chain.{col}
 use Rattle.chain.proofs.Walks.{Any, any-start, any-hit, any-on, any-end, next-less}
 use Rattle.index.specs.Rows.{codeOf}
 use Rattle.search.specs.Search.{near}
@@ -36,25 +35,17 @@ module _ (text : List ℕ) (r s : Row) (limit : ℕ) where
     other-code n = rw (ne-eqb (getD r 4 0) (getD s 4 0) (λ z. n (ep ∙ z ∙ sym eq))) refl
 
     module _ (f : p ≡ q) (x y : Moment) (t : Bool) (ex : x ≡ momentIn r) (ey : y ≡ momentIn s) (et : t ≡ near x y limit) where
-      no-both : (a : Bool) → both a false ≡ false
-      no-both true = refl
-      no-both false = refl
-
-      yes-both : (a : Bool) → both a true ≡ a
-      yes-both true = refl
-      yes-both false = refl
-
       pub other-time : not t ≡ true → false ≡ Test
       unfolding alike
       other-time n =
           let u : near (momentIn r) (momentIn s) limit ≡ false = rw (← ex, ← ey, ← et) (not-true t n) in
-          rw (eq-eqb (getD r 4 0) (getD s 4 0) (sym ep ∙ f ∙ eq), u) (sym (no-both (keysInFile text (keyIn r) text (keyIn s))))
+          rw (eq-eqb (getD r 4 0) (getD s 4 0) (sym ep ∙ f ∙ eq), u) (sym (both-no (keysInFile text (keyIn r) text (keyIn s))))
 
       pub same-time : not t ≡ false → (k o : Key) (v : Bool) → k ≡ keyIn r → o ≡ keyIn s → v ≡ keysInFile text k text o → v ≡ Test
       unfolding alike
       same-time n k o v ek eo ev =
           let u : near (momentIn r) (momentIn s) limit ≡ true = rw (← ex, ← ey, ← et) (not-false t n) in
-          rw (eq-eqb (getD r 4 0) (getD s 4 0) (sym ep ∙ f ∙ eq), u) (ev ∙ rw (ek, eo) refl ∙ sym (yes-both (keysInFile text (keyIn r) text (keyIn s))))
+          rw (eq-eqb (getD r 4 0) (getD s 4 0) (sym ep ∙ f ∙ eq), u) (ev ∙ rw (ek, eo) refl ∙ sym (both-yes (keysInFile text (keyIn r) text (keyIn s))))
 
 -- ---- what is alike has the same code
 key-code : (call mode band call' mode' band' : List ℕ) → inFile call mode band call' mode' band' ≡ true → fileCode call mode band ≡ fileCode call' mode' band'
@@ -138,6 +129,3 @@ module _ (text : List ℕ) (rows : List Row) (n k : ℕ) (C : Chained text n k r
 
   pub row-there : k < length rows
   row-there = omega (arith, C .1, C .0 .room)
-
-pub key-is : (row : Row) (a b d : Place) → a ≡ callIn row → b ≡ modeIn row → d ≡ bandIn row → record { call = a; mode = b; band = d } ≡ keyIn row
-key-is row a b d ea eb ed = rw (ea, eb, ed) refl

@@ -1,34 +1,15 @@
 // Duplicates inside a file. The importable records of a plan's rows stand in chains, one for each remainder of their codes, so that a
 // record is compared with those of its own chain only.
 ghost use mathlib.Core.Path.{_≡_};
-ghost use mathlib.Core.List.{[]};
-ghost use Prim.Native.Nat.{ℕ, _+_, _*_, _≤_, _<_};
+ghost use Prim.Native.Nat.{_+_, _<_};
 ghost use lib.ListN.{length, getD};
 ghost use lib.Dec.{eqb};
 ghost use Rattle.text.specs.Pick.{both};
-ghost use Rattle.tables.specs.Place.{place};
-ghost use Rattle.chain.specs.Chain.{col};
-ghost use Rattle.entries.specs.Row.{keyIn, momentIn};
+ghost use Rattle.entries.specs.Row.{momentIn};
 ghost use Rattle.infile.specs.Infile.{alike, repeatedIn, Chained, withHead, withNext, pushed};
-use dedupe::Key;
+use entries::key_in;
 use entries::number_in;
-use tables::Place;
 use times::Moment;
-
-fn place_of(kind: u32, start: u32, len: u32) -> Place
-    ensures { λ r. ⌜ r ≡ place kind start len ⌝ }
-{
-    Place { kind, start, len }
-}
-
-pub fn key_in(row: [u32; 28]) -> Key
-    ensures { λ r. ⌜ r ≡ keyIn row ⌝ }
-{
-    let call = place_of(row[5], row[6], row[7]);
-    let mode = place_of(row[8], row[9], row[10]);
-    let band = place_of(row[11], row[12], row[13]);
-    Key { call, mode, band }
-}
 
 pub fn moment_in(row: [u32; 28]) -> Moment
     ensures { λ r. ⌜ r ≡ momentIn row ⌝ }

@@ -9,7 +9,6 @@ use lib.ListN.{length, getD, drop, drop-of-length-le}
 use lib.Seq.{drop-cons}
 use lib.Dec.{ltb}
 use borrow.Author.Tests.{lt-ltb, le-ltb, ltb-true, ltb-false}
-use Rattle.text.specs.Pick.{pick}
 use Rattle.letters.specs.Capitals.{raised, capitals}
 use Rattle.letters.specs.Order.{order, orderRaised}
 use Rattle.letters.specs.declared.Order.{Order}

@@ -1,5 +1,5 @@
 -- Laws of `specs/Same.antt`: the test says what it seems to say, and what a loop over both texts asks. Assumes nothing.
-use mathlib.Core.Path.{_≡_, refl, sym, ap, _∙_}
+use mathlib.Core.Path.{_≡_, refl, sym, ap}
 use mathlib.Core.Bool.{Bool, true, false}
 use mathlib.Core.List.{List, [], _∷_}
 use Prim.Native.Nat.{ℕ, suc, _+_, _≤_, _<_}
@@ -10,6 +10,7 @@ use lib.Seq.{drop-cons}
 use lib.Dec.{eqb}
 use borrow.Author.Tests.{eq-eqb, ne-eqb, eqb-true}
 use Rattle.text.specs.Pick.{both}
+use Rattle.text.proofs.BoolLaws.{both-no}
 use Rattle.letters.specs.Capitals.{raised, capitals}
 use Rattle.letters.specs.Same.{same, sameRaised}
 
@@ -34,10 +35,6 @@ same-true (x ∷ xs) (y ∷ ys) e = by (eqb x y) refl e (λ q. same-true xs ys q
 pub same-raised-true : (xs ys : List ℕ) → sameRaised xs ys ≡ true → capitals xs ≡ capitals ys
 unfolding sameRaised
 same-raised-true xs ys e = same-true (capitals xs) (capitals ys) e
-
-both-no : (t : Bool) → both t false ≡ false
-both-no true = refl
-both-no false = refl
 
 pub lengths-differ : (xs ys : List ℕ) → (length xs ≡ length ys → ⊥) → false ≡ same xs ys
 lengths-differ [] [] h = absurd (h refl)

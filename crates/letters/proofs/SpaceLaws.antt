@@ -11,8 +11,7 @@ use borrow.Author.Tests.{ne-eqb, lt-leb, leb-true}
 use Rattle.text.specs.Pick.{pick, both, within}
 use Rattle.text.specs.Space.{space1, space2, space3, space80, spaceLen, spaceBack, trimStart, trimEnd, trimmed, blank}
 use Rattle.text.specs.Walk.{walk, lead}
-use Rattle.text.proofs.BoolLaws.{both-left, both-right}
-use Rattle.text.proofs.Utf8Laws.{both-no}
+use Rattle.text.proofs.BoolLaws.{both-left, both-right, both-no}
 use Rattle.letters.specs.Capitals.{raised, capitals}
 
 -- ---- raising changes no test of a byte that is no letter

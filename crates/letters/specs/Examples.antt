@@ -5,7 +5,7 @@ use mathlib.Core.List.{[], _∷_}
 use Rattle.letters.specs.Capitals.{raised, capitals}
 use Rattle.letters.specs.Same.{same, sameRaised}
 use Rattle.letters.specs.Order.{order, orderRaised}
-use Rattle.letters.specs.declared.Order.the-variants.{Less, Equal, Greater}
+use Rattle.letters.specs.declared.Order.the-variants.{Less, Greater}
 
 -- "w1aw" in capitals is "W1AW"
 call : capitals (119 ∷ 49 ∷ 97 ∷ 119 ∷ []) ≡ 87 ∷ 49 ∷ 65 ∷ 87 ∷ []

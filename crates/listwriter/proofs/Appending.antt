@@ -1,21 +1,20 @@
 -- A contact appended to the list of others gives the list of all of them. Assumes nothing.
 use mathlib.Core.Path.{_≡_, refl, sym, ap, _∙_}
-use mathlib.Core.Bool.{Bool, true, false}
+use mathlib.Core.Bool.{true}
 use mathlib.Core.List.{List, [], _∷_, _++_, append-assoc, append-nil}
 use Prim.Native.Nat.{ℕ, zero, suc, _+_, _≤_, _<_}
 use native.Mathlib.Omega.{arith}
 use lib.ListN.{length, take, drop, length-append}
-use lib.Seq.{sets, sets-eq, length-sets, take-at, drop-at, take-append-le}
+use lib.Seq.{sets, sets-eq, take-at, drop-at}
 use lib.Dec.{leb, ltb}
 use borrow.Author.Tests.{leb-true, ltb-true, lt-ltb}
-use Rattle.text.specs.Pick.{pick, both}
-use Rattle.text.proofs.BoolLaws.{cases, both-left, both-right, both-true}
+use Rattle.text.specs.Pick.{both}
+use Rattle.text.proofs.BoolLaws.{cases, both-left, both-right}
 use Rattle.refusals.specs.declared.Refusal.{Refusal}
 use Rattle.refusals.specs.declared.Refusal.the-variants.{TooLong, ShortOutput, MalformedList, IdsNotRising}
 use Rattle.contacts.specs.Contacts.{Contact, idOf, sound, soundFrom, bytesOf, entryText, entriesText, listText, largest}
 use Rattle.contacts.specs.Lists.{Says}
 use Rattle.listwriter.specs.Append.{placedAs, growing, appendAs, appendBy, appendAfter}
-use Rattle.listwriter.specs.declared.Appended.{Appended}
 use Rattle.listwriter.specs.declared.Appended.the-variants.{Bytes, Refused}
 use Rattle.listwriter.proofs.ReadBack.{bytes-length, lastOf, largest-is}
 

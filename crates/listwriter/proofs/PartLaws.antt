@@ -1,25 +1,14 @@
 -- The parts of an entry put one behind the other. Assumes nothing.
 use mathlib.Core.Path.{_≡_, refl, sym, ap, _∙_}
-use mathlib.Core.Bool.{Bool, true, false, not}
 use mathlib.Core.List.{List, [], _∷_, _++_, append-assoc}
-use Prim.Native.Nat.{ℕ, zero, suc, _+_, _-_, _/_, _%_, _≤_, _<_}
+use Prim.Native.Nat.{ℕ, zero, suc, _+_, _-_, _/_, _%_}
 use native.Mathlib.Omega.{arith}
 use lib.ListN.{length, length-append}
-use lib.Seq.{sets, length-sets}
-use lib.Dec.{leb, ltb}
-use borrow.Author.Tests.{not-true, not-false, le-leb, lt-leb, leb-true, lt-ltb, le-ltb, ltb-true}
-use Rattle.text.specs.Pick.{pick, both}
-use Rattle.text.proofs.BoolLaws.{both-left, both-right}
 use Rattle.output.specs.Put.{Put, Room}
-use Rattle.output.proofs.PutLaws.{put-none, put-then, put-length, room-first, room-next, room-second, room-third, put-three}
-use Rattle.refusals.specs.declared.Refusal.{Refusal}
-use Rattle.refusals.specs.declared.Refusal.the-variants.{TooLong, ShortOutput, MalformedList, IdsNotRising}
-use Rattle.contacts.specs.Contacts.{Contact, contact, idOf, sound, soundHead, soundTexts, bytesOf, counted, bodyText, entryText, entriesText, listText}
-use Rattle.listwriter.specs.Append.{startAs, startAfter, placedAs, growing, appendAs, appendBy, appendAfter}
-use Rattle.listwriter.specs.Parts.{pairText, textsText, headText, bodySize, Counted, Behind}
-use Rattle.listwriter.specs.declared.Appended.{Appended}
-use Rattle.listwriter.specs.declared.Appended.the-variants.{Bytes, Refused}
-use Rattle.listwriter.proofs.ReadBack.{bytes-length, body-length, small}
+use Rattle.output.proofs.PutLaws.{put-none, put-then, room-first, room-next, room-second, room-third, put-three}
+use Rattle.contacts.specs.Contacts.{contact, bytesOf, counted, bodyText, entryText}
+use Rattle.listwriter.specs.Parts.{pairText, textsText, headText, bodySize}
+use Rattle.listwriter.proofs.ReadBack.{bytes-length, body-length}
 
 -- ---- a number
 more : (k n : ℕ) → (k ≡ 0 → ⊥) → bytesOf k n ≡ bytesOf (k - 1) (n / 256) ++ (n % 256 ∷ [])

@@ -1,20 +1,19 @@
 -- The list that contacts make is a list, and says those contacts. Assumes nothing.
 use mathlib.Core.Path.{_≡_, refl, sym, ap, _∙_}
-use mathlib.Core.Bool.{Bool, true, false}
+use mathlib.Core.Bool.{true}
 use mathlib.Core.List.{List, [], _∷_, _++_, append-assoc, append-nil}
-use Prim.Native.Nat.{ℕ, zero, suc, _+_, _-_, _*_, _/_, _%_, _≤_, _<_}
-use native.Mathlib.Nat.{div-add-mod', add-zero, not-suc-le-zero}
+use Prim.Native.Nat.{ℕ, zero, suc, _+_, _-_, _/_, _%_, _≤_, _<_}
+use native.Mathlib.Nat.{div-add-mod'}
 use native.Mathlib.Omega.{arith}
 use lib.ListN.{length, getD, take, drop, length-append}
 use lib.Seq.{take-at, drop-at, getD-at}
 use lib.Dec.{eqb, leb, ltb}
-use borrow.Author.Tests.{eqb-true, eq-eqb, ne-eqb, le-leb, leb-true, leb-false, lt-ltb, le-ltb, ltb-true}
-use Rattle.text.specs.Pick.{pick, both, either, within}
-use Rattle.text.proofs.BoolLaws.{cases, both-left, both-right, both-true}
+use borrow.Author.Tests.{eqb-true, eq-eqb, ne-eqb, le-leb, leb-true, le-ltb, ltb-true}
+use Rattle.text.specs.Pick.{both, either, within}
+use Rattle.text.proofs.BoolLaws.{cases, both-left, both-right}
 use Rattle.contacts.specs.Contacts.{Contact, contact, idOf, plain, isDate, isTime, soundHead, soundTexts, sound, soundFrom, bytesOf, counted, bodyText, entryText, entriesText, listText, larger, largest}
 use Rattle.contacts.specs.Lists.{Says, numberAt, textAt, after, callAt, dateAt, timeAt, bandAt, modeAt, endAt, idAt, servicesAt, contactAt, fits, goodAt, entriesFrom, countOf, listedAs, contactsFrom, contactsOf}
-use Rattle.contacts.specs.declared.Listed.{Listed}
-use Rattle.contacts.specs.declared.Listed.the-variants.{Marked, Refused}
+use Rattle.contacts.specs.declared.Listed.the-variants.{Marked}
 
 -- ---- numbers
 pub bytes-length : (k n : ℕ) → length (bytesOf k n) ≡ k

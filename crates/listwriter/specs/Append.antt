@@ -6,7 +6,6 @@ use lib.ListN.{length}
 use lib.Seq.{sets}
 use lib.Dec.{leb, ltb}
 use Rattle.text.specs.Pick.{pick, both}
-use Rattle.refusals.specs.declared.Refusal.{Refusal}
 use Rattle.refusals.specs.declared.Refusal.the-variants.{TooLong, ShortOutput, MalformedList, IdsNotRising}
 use Rattle.contacts.specs.Contacts.{Contact, idOf, sound, bytesOf, entryText, listText}
 use Rattle.listwriter.specs.declared.Appended.{Appended}

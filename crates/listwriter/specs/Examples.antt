@@ -1,13 +1,12 @@
 -- Worked examples.
 use mathlib.Core.Path.{_≡_, refl}
 use mathlib.Core.List.{List, [], _∷_}
-use Prim.Native.Nat.{ℕ}
 use Rattle.text.specs.Ascii.{ascii}
 use Rattle.text.specs.Walk.{lead}
 use Rattle.text.specs.Utf8.{charLen, longChar, second3, second4, validUpTo, utf8}
 use Rattle.refusals.specs.declared.Refusal.the-variants.{ShortOutput, MalformedList, IdsNotRising}
 use Rattle.contacts.specs.Contacts.{Contact, contact, plain, isDate, isTime, soundHead, soundTexts, sound, bytesOf, bodyText, entryText, entriesText, listText}
-use Rattle.listwriter.specs.Append.{startAs, startAfter, placedAs, growing, appendAs}
+use Rattle.listwriter.specs.Append.{startAfter, placedAs, growing, appendAs}
 use Rattle.listwriter.specs.declared.Appended.the-variants.{Bytes, Refused}
 
 -- a list with no contact, in six bytes that were 9

@@ -1,11 +1,9 @@
 // Contacts written as a list, one behind the other: a list is begun, and each contact appended to it.
 ghost use mathlib.Core.Path.{_≡_};
-ghost use mathlib.Core.List.{[], _∷_, _++_};
-ghost use Prim.Native.Nat.{ℕ, _+_, _≤_, _<_};
+ghost use Prim.Native.Nat.{_+_, _≤_, _<_};
 ghost use lib.ListN.{length};
-ghost use lib.Seq.{sets};
 ghost use Rattle.output.specs.Put.{Put, Room};
-ghost use Rattle.contacts.specs.Contacts.{contact, bytesOf, counted, entryText, listText};
+ghost use Rattle.contacts.specs.Contacts.{contact, bytesOf, counted, entryText};
 ghost use Rattle.listwriter.specs.Append.{startAs, startAfter, growing, appendAs, appendAfter};
 ghost use Rattle.listwriter.specs.Parts.{pairText, textsText, headText, bodySize, Counted, Behind};
 use refusals::LONGEST;

@@ -7,23 +7,20 @@ use native.Mathlib.Omega.{arith}
 use lib.ListN.{length, getD, take, drop, set, length-map, List·getD-append}
 use lib.Seq.{sets, sets-eq, length-sets, length-take-le, drop-at}
 use lib.IntN.{ℤ}
-use Rattle.tables.specs.Place.{bytes}
 use Rattle.times.specs.Window.{limitOf}
 use Rattle.chain.specs.Chain.{col}
 use Rattle.chain.proofs.Fronts.{Each, each-start, each-on, each-end}
-use Rattle.contacts.specs.Lists.{contactsOf, countOf, listedAs}
-use Rattle.contacts.specs.declared.Listed.the-variants.{Marked}
-use Rattle.contacts.proofs.ListLaws.{accepted}
+use Rattle.contacts.specs.Lists.{contactsOf, countOf}
 use Rattle.index.specs.Rows as index
 use Rattle.indexing.proofs.BuildLaws.{indexed-listed}
 use Rattle.wanted.specs.declared.Wanted.{Wanted}
 use Rattle.search.specs.Search.{firstFor, placeOf, hitOf, Indexed}
 use Rattle.search.specs.declared.Hit.{Hit}
-use Rattle.search.proofs.ReadyLaws.{contacts-length, ready}
+use Rattle.search.proofs.ReadyLaws.{contacts-length}
 use Rattle.plan.specs.Entry.{Entry, noEntry}
 use Rattle.plan.specs.Fates.{found}
 use Rattle.plan.specs.Plan.{hitsOf}
-use Rattle.entries.specs.Row.{Row, keyIn, momentIn}
+use Rattle.entries.specs.Row.{Row}
 use Rattle.entries.specs.Filled.{Says, Answers, Said, Answered, Bare}
 use Rattle.logged.specs.Logged.{wantedIn, hitIn, withHit, loggedRow, loggedRows, Searchable}
 use Rattle.logged.proofs.FoundLaws.{found-is, hit-at, found-within, match-few, match-within, place-few}

@@ -1,6 +1,5 @@
 -- What a record finds in the log, and its row with that: number 22 the contact, by number and one, number 27 the place of its entry.
 use Prim.Native.Nat.{ℕ, _<_}
-use mathlib.Core.Path.{_≡_}
 use mathlib.Core.List.{List, [], _∷_, map}
 use lib.ListN.{getD, take}
 use Rattle.tables.specs.Place.{bytes}

@@ -13,7 +13,7 @@ use wanted::Wanted;
 fn wanted_in(row: [u32; 28]) -> Wanted
     ensures { λ r. ⌜ r ≡ wantedIn row ⌝ }
 {
-    let key = infile::key_in(row);
+    let key = entries::key_in(row);
     let moment = infile::moment_in(row);
     Wanted { key, moment }
 }

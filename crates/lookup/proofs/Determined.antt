@@ -1,5 +1,5 @@
 -- Each public call's promise is met by one answer. Assumes nothing.
-use mathlib.Core.Path.{_≡_, sym, _∙_}
+use mathlib.Core.Path.{sym, _∙_}
 use denote.Ref.{now}
 use Rattle.index.proofs.ContactLaws.{plain-once}
 use Rattle.index.proofs.Agree.{Agrees, agree-three}

@@ -1,15 +1,14 @@
 -- The columns as the rows fill them, and the tests of rows. Assumes nothing.
 use mathlib.Core.Path.{_≡_, refl, sym, ap, _∙_}
 use mathlib.Core.Bool.{Bool, true, false, not}
-use mathlib.Core.List.{List, [], _∷_, map}
-use Prim.Native.Nat.{ℕ, zero, suc, _+_, _-_, _*_, _≤_, _<_}
+use mathlib.Core.List.{List, _∷_}
+use Prim.Native.Nat.{ℕ, suc, _+_, _-_, _≤_, _<_}
 use native.Mathlib.Omega.{arith}
 use lib.Dec.{eqb, ltb}
-use lib.ListN.{length, getD, set, replicate}
-use Rattle.text.specs.Pick.{pick, both}
+use lib.ListN.{set, replicate}
+use Rattle.text.specs.Pick.{both}
 use Rattle.letters.specs.Order.{orderRaised}
 use Rattle.letters.specs.declared.Order.{Order}
-use Rattle.letters.specs.Same.{sameRaised}
 use Rattle.rowcheck.specs.Check.{Row, recordIn, nameIn, placed, sound, isLess}
 use Rattle.writer.specs.Rows.{rowAt, rowsFrom}
 use Rattle.writer.proofs.RowLaws.{row-before}

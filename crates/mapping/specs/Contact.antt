@@ -1,6 +1,5 @@
 -- A record mapped to a contact, as bytes: the columns by name, their numbers read, and all other fields as they are.
 use Prim.Native.Nat.{ℕ}
-use mathlib.Core.Bool.{Bool, true, false}
 use mathlib.Core.List.{List, [], _∷_}
 use mathlib.Core.Option.{Option, none, some}
 use lib.IntN.{ℤ}

@@ -1,6 +1,6 @@
 -- A name of the bands is its own canonical form and is not blank; a name of the modes names no band. So normalising a contact twice is
 -- normalising it once. Assumes nothing.
-use mathlib.Core.Path.{_≡_, refl, sym, ap, _∙_}
+use mathlib.Core.Path.{_≡_, refl, ap, _∙_}
 use mathlib.Core.Bool.{Bool, true, false, not}
 use mathlib.Core.List.{List, [], _∷_}
 use mathlib.Core.Option.{Option, none, some}

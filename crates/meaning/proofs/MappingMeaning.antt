@@ -1,40 +1,29 @@
 -- The QSO to which a record's rows are mapped says the contact to which the record's fields are mapped. Assumes nothing.
-use mathlib.Core.Path.{_≡_, refl, sym, ap, _∙_}
+use mathlib.Core.Path.{_≡_, refl, ap}
 use mathlib.Core.Bool.{Bool, true, false}
 use mathlib.Core.List.{List, [], _∷_, map}
-use mathlib.Core.Option.{Option, none, some}
-use Prim.Native.Nat.{ℕ, suc}
-use native.Mathlib.Omega.{arith}
-use lib.IntN.{ℤ}
+use mathlib.Core.Option.{some}
+use Prim.Native.Nat.{ℕ}
 use lib.ListN.{getD}
 use Rattle.text.specs.Ascii.{ascii}
 use Rattle.text.specs.Pick.{pick}
-use Rattle.text.specs.Space.{space1, space2, space3, space80, spaceLen, spaceBack, width, trimStart, trimEnd, trimmed}
-use Rattle.text.specs.Walk.{lead}
+use Rattle.text.specs.Space.{trimmed}
 use Rattle.letters.specs.Capitals.{raised, capitals}
 use Rattle.letters.specs.Same.{same, sameRaised}
-use Rattle.decimal.specs.Decimal.{digitsAfter, digitsOf, leads, unsignedOf, aboveZero, belowZero, signedOf}
+use Rattle.decimal.specs.Decimal.{signedOf}
 use Rattle.decimal.specs.declared.Signed.{Signed}
 use Rattle.decimal.specs.declared.Signed.the-variants.{Of, Bad}
-use Rattle.mhz.specs.Digits.{numberOf}
-use Rattle.mhz.specs.Number.{negative, unsigned, pointed, wholePart, fractionPart, afterDecimal, allDigits, decimalOf, isInfinity, isNan, unsignedNumber, numberIn}
 use Rattle.mhz.specs.Reading.{readHertz}
 use Rattle.mhz.specs.declared.Hz.{Hz}
 use Rattle.mhz.specs.declared.Hz.the-variants.{Absent, Is, Outside}
-use Rattle.tables.specs.Table.{firstFrom, isFound}
-use Rattle.tables.specs.Place.{absent, part, value, orEmpty, bytes, valuePlace}
+use Rattle.tables.specs.Place.{absent, part, value, valuePlace}
 use Rattle.tables.specs.declared.Place.{Place}
 use Rattle.adif.specs.Grammar.{Field}
 use Rattle.rowcheck.specs.Check.{Row, nameIn}
 use Rattle.writer.specs.Rows.{rowField}
 use Rattle.columns.specs.Columns.{columnNames, isColumn}
 use Rattle.columns.proofs.ColumnLaws.{named-raised}
-use Rattle.model.specs.Contact.{Contact, contact, hertz, entity}
-use Rattle.model.specs.Answer.{accepted, refused}
-use Rattle.model.specs.declared.Answer.{Answer}
-use Rattle.model.specs.declared.Frequency.{Frequency}
-use Rattle.model.specs.declared.Dxcc.{Dxcc}
-use Rattle.model.specs.declared.Qso.{Qso}
+use Rattle.model.specs.Contact.{contact, hertz, entity}
 use Rattle.mapping.specs.Contact.{valueNamed, hertzRead, frequencyRead, entityRead, dxccRead, extraFields, contactOf}
 use Rattle.mapping.specs.Mapping.{placeNamed, columnsOf, extraRows, frequencyOf, dxccOf, dxccAt, qsoWith}
 use Rattle.mapping.proofs.AnswerLaws.{no-hertz, no-number}

@@ -3,7 +3,7 @@ use mathlib.Core.Path.{_≡_, refl, sym, ap, _∙_}
 use mathlib.Core.Bool.{Bool, true, false}
 use mathlib.Core.List.{List, [], _∷_, map}
 use mathlib.Core.Option.{Option, none, some}
-use Prim.Native.Nat.{ℕ, zero, suc, _+_}
+use Prim.Native.Nat.{ℕ, zero, suc}
 use native.Mathlib.Omega.{arith}
 use lib.Dec.{eqb, ltb}
 use lib.ListN.{length, getD, take, drop, length-map}
@@ -19,7 +19,7 @@ use Rattle.trip.proofs.Raised.{word-raised}
 use Rattle.tables.specs.Table.{named, entry}
 use Rattle.tables.specs.Bands.{bands, bandNames, holds, bandFor, bandNamed}
 use Rattle.tables.specs.Modes.{modeNames}
-use Rattle.tables.specs.Place.{place, absent, part, value, orEmpty, bytes, orElse, bandPlace, bandEntry}
+use Rattle.tables.specs.Place.{place, absent, part, value, orEmpty, bytes, orElse, bandPlace}
 use Rattle.tables.specs.declared.Found.{Found}
 use Rattle.tables.specs.declared.Found.the-variants.{At, Nothing}
 use Rattle.tables.specs.declared.Place.{Place}

@@ -11,7 +11,7 @@ use lib.Seq.{drop-cons}
 use Rattle.adif.specs.Grammar.{Field}
 use Rattle.output.specs.Put.{Put, Room}
 use Rattle.output.proofs.PutLaws.{put-length}
-use Rattle.fields.specs.Written.{fieldText, fieldsText, recordText, endOfRecord}
+use Rattle.fields.specs.Written.{fieldsText, recordText, endOfRecord}
 use Rattle.fields.proofs.FieldLaws.{Left, left-start, left-length, left-on, left-room, left-end}
 use Rattle.headers.specs.Answer.{capped, cappedAfter}
 use Rattle.headers.proofs.SizeLaws.{after}

@@ -2,7 +2,7 @@
 use mathlib.Core.Path.{_≡_, refl, sym, ap, _∙_}
 use mathlib.Core.Bool.{Bool, true, false, not}
 use mathlib.Core.List.{List, [], _∷_, _++_, append-assoc, append-nil, map}
-use Prim.Native.Nat.{ℕ, zero, suc, _+_, _-_, _*_, _≤_, _<_}
+use Prim.Native.Nat.{ℕ, zero, suc, _+_, _-_, _≤_, _<_}
 use native.Mathlib.Nat.{add-zero}
 use native.Mathlib.Omega.{arith}
 use lib.ListN.{length, take, length-append}
@@ -10,14 +10,13 @@ use lib.Seq.{sets, length-sets}
 use lib.Dec.{leb}
 use borrow.Author.Tests.{not-true, not-false, leb-false}
 use Rattle.text.specs.Pick.{pick}
-use Rattle.letters.specs.Capitals.{capitals}
 use Rattle.letters.specs.Order.{order, orderRaised}
 use Rattle.letters.specs.Same.{same, sameRaised}
 use Rattle.letters.specs.declared.Order.{Order}
 use Rattle.adif.specs.Grammar.{Field}
 use Rattle.rowcheck.specs.Check.{Row, nameIn, valueIn, isLess}
 use Rattle.output.specs.Put.{Put, Room}
-use Rattle.output.proofs.PutLaws.{sets-append}
+use Rattle.text.proofs.StoreLaws.{sets-append}
 use Rattle.fields.specs.Written.{fieldText, fieldsText}
 use Rattle.fields.specs.Parts.{fieldAs}
 use Rattle.headers.specs.Answer.{capped, cappedAfter}

@@ -1,7 +1,6 @@
 -- Worked examples.
 use mathlib.Core.Path.{_≡_, refl}
-use mathlib.Core.List.{List, [], _∷_}
-use Prim.Native.Nat.{ℕ}
+use mathlib.Core.List.{[], _∷_}
 use Prim.Native.String.{String}
 use Rattle.text.specs.Ascii.{ascii}
 use Rattle.adif.specs.Grammar.{Field}

@@ -1,6 +1,5 @@
 -- Two lists of fields in one.
 use Prim.Native.Nat.{ℕ}
-use mathlib.Core.Bool.{Bool, true, false}
 use mathlib.Core.List.{List, [], _∷_, _++_}
 use Rattle.text.specs.Pick.{pick}
 use Rattle.letters.specs.Same.{same}

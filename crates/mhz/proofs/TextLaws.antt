@@ -12,7 +12,7 @@ use lib.Ieee.{inf, nan, mul, lt}
 use borrow.Author.Tests.{lt-leb, ne-eqb}
 use Rattle.text.specs.Pick.{pick, either}
 use Rattle.text.proofs.SpaceLaws.{rest}
-use Rattle.text.proofs.Utf8Laws.{both-no}
+use Rattle.text.proofs.BoolLaws.{both-no}
 use Rattle.letters.specs.Capitals.{raised}
 use Rattle.letters.specs.Same.{sameRaised}
 use Rattle.hertz.specs.Whole.{toHz, belowZero, rounded}

@@ -1,8 +1,8 @@
 -- Worked examples, over the text " 40M usb".
 use mathlib.Core.Path.{_≡_, refl}
-use mathlib.Core.Bool.{true, false}
-use mathlib.Core.List.{List, [], _∷_}
-use mathlib.Core.Option.{none, some}
+use mathlib.Core.Bool.{true}
+use mathlib.Core.List.{List, []}
+use mathlib.Core.Option.{some}
 use Prim.Native.Nat.{ℕ}
 use lib.IntN.{negsuc}
 use lib.ListN.{set}
@@ -13,7 +13,7 @@ use Rattle.text.specs.Walk.{lead}
 use Rattle.letters.specs.Capitals.{raised}
 use Rattle.letters.specs.Same.{sameRaised}
 use Rattle.refusals.specs.declared.Refusal.the-variants.{BadRow}
-use Rattle.tables.specs.Table.{named, keyOf}
+use Rattle.tables.specs.Table.{named}
 use Rattle.tables.specs.Bands.{bands, bandNames, bandFor, bandNamed}
 use Rattle.tables.specs.Modes.{modes, modeNames}
 use Rattle.tables.specs.Place.{stands, bandEntry, modeEntry, part, value, tidy}
@@ -22,7 +22,7 @@ use Rattle.normalize.specs.Normal.{parentEntry, aliasEntry, aliasedPlace, split
 use Rattle.columns.specs.Columns.{band, mode, bandRx}
 use Rattle.model.specs.Contact.{contact, entity}
 use Rattle.model.specs.Normal.{isBlank, canonical, normalBand, normalBandRx, bandAt, knownBand, blank, normalBandPlace, normalBandRxPlace, normalColumns, normalQso}
-use Rattle.model.specs.Answer.{isPart, isEntry, isFit, isQso, noColumns, noFrequency, noDxcc, emptyQso, accepted, refused, normalizedTo}
+use Rattle.model.specs.Answer.{isPart, isEntry, isFit, isQso, noColumns, noFrequency, noDxcc, accepted, refused, normalizedTo}
 use Rattle.model.specs.declared.Qso.{Qso}
 
 abbrev text : List ℕ

@@ -1,7 +1,7 @@
 // Modes and submodes brought to ADIF's own.
 ghost use mathlib.Core.Path.{_≡_};
 ghost use Prim.Native.Nat.{_≤_};
-ghost use lib.ListN.{length, getD};
+ghost use lib.ListN.{length};
 ghost use Rattle.normalize.specs.Normal.{entryAt, parentOfKey, aliasOfKey, parentEntry, aliasedPlace, splitPlace, normalPlaces};
 use super::ModePair;
 use tables::Found;

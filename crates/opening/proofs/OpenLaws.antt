@@ -1,15 +1,13 @@
 -- From what each step leaves to the definition, and what a caller knows of rows that were opened. Assumes nothing.
 use mathlib.Core.Path.{_≡_, refl, sym, ap, _∙_}
-use mathlib.Core.Bool.{Bool}
 use mathlib.Core.List.{List, _++_}
 use Prim.Native.Nat.{ℕ, _-_, _/_, _≤_, _<_}
 use native.Mathlib.Nat.{sub-zero}
 use native.Mathlib.Omega.{arith}
 use lib.Dec.{leb, ltb}
-use lib.ListN.{length, take, drop, replicate, length-replicate}
+use lib.ListN.{length, take, replicate, length-replicate}
 use lib.Seq.{sets}
 use borrow.Author.Tests.{le-leb, lt-leb, leb-true, ltb-false}
-use Rattle.text.specs.Pick.{pick}
 use Rattle.text.proofs.BoolLaws.{cases}
 use Rattle.refusals.specs.declared.Refusal.{Refusal}
 use Rattle.refusals.specs.Refusals.{ofText}
@@ -25,7 +23,7 @@ use Rattle.entries.specs.Row.{Row, noRow}
 use Rattle.entries.specs.Filled.{ReadInto}
 use Rattle.entries.specs.Walked.{entryRows}
 use Rattle.cards.specs.Carded.{noCard}
-use Rattle.opening.specs.Opened.{readBy, readAs, openedAs, openedTable, openedFates, OpenedRead, Opened, recordsIn}
+use Rattle.opening.specs.Opened.{readBy, openedAs, openedTable, openedFates, OpenedRead, Opened, recordsIn}
 
 pub unread-read : {P : Type 0} (why : Refusal) (n used : ℕ) → Unread why ≡ Read n used → P
 unread-read why n used e = absurd (let z : _≡_ {A = ℕ} 0 1 = cc in omega arith)

@@ -6,13 +6,8 @@ use native.Mathlib.Nat.{add-zero}
 use native.Mathlib.Omega.{arith}
 use lib.ListN.{length, getD, drop, set, length-append, drop-of-length-le}
 use lib.Seq.{sets, length-sets, drop-cons}
+use Rattle.text.proofs.StoreLaws.{sets-append}
 use Rattle.output.specs.Put.{Put, Room}
-
-pub sets-append : (l : List ℕ) (i : ℕ) (a b : List ℕ) → sets l i (a ++ b) ≡ sets (sets l i a) (i + length a) b
-sets-append l i [] b = rw add-zero
-sets-append l i (x ∷ a) b =
-    let e : suc i + length a ≡ i + suc (length a) = omega arith in
-    sets-append (set l i x) (suc i) a b ∙ rw e
 
 pub put-length : (r : ℕ) (was now : List ℕ) (at : ℕ) (w : List ℕ) → Put r was now at w → length now ≡ length was
 unfolding Put

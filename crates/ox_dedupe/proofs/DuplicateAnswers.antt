@@ -1,5 +1,5 @@
 -- Laws of the answers, by the verdict on the texts and on the QSOs. Assumes nothing.
-use mathlib.Core.Path.{_≡_, refl, sym, ap, _∙_}
+use mathlib.Core.Path.{_≡_, refl, ap, _∙_}
 use mathlib.Core.Bool.{Bool, true, false}
 use mathlib.Core.List.{List}
 use Prim.Native.Nat.{ℕ}
@@ -9,7 +9,7 @@ use lib.ListN.{length}
 use mir.Syntax.{w64}
 use mir.Val.{SFits, toZ, ofZ}
 use mir.ValLaws.{toZ-ofZ}
-use Rattle.text.specs.Pick.{pick, both}
+use Rattle.text.specs.Pick.{both}
 use Rattle.refusals.specs.Refusals.{numberOf, placeOf, ofTexts}
 use Rattle.refusals.specs.declared.Refusal.{Refusal}
 use Rattle.refusals.specs.declared.Refusal.the-variants.{TooLong, BadRow}
@@ -25,7 +25,7 @@ use Rattle.times.specs.declared.Moment.{Moment}
 use Rattle.times.specs.declared.Moment.the-variants.{At, Never}
 use Rattle.dedupe.specs.Views.{keysInLog, keysInFile, keysNatural, keysDuplicate}
 use Rattle.dedupe.specs.declared.Key.{Key}
-use Rattle.ox_text.specs.Texts.{answer, untoldOf, toldOf}
+use Rattle.ox_text.specs.Texts.{untoldOf, toldOf}
 use Rattle.ox_text.specs.declared.Told.{Told}
 use Rattle.ox_dedupe.specs.Duplicates.{untimedOf, timedOf, momentAnswer, ofQsos, keyOf, momentIn, inLogAnswer, inFileAnswer, naturalAnswer, withinAnswer, duplicateAnswer}
 use Rattle.ox_dedupe.specs.declared.Timed.{Timed}

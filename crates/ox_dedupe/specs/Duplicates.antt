@@ -1,6 +1,6 @@
 -- The answers of the duplicate test, as numbers: on a date and a time, and on two QSOs, each over its own text.
 use Prim.Native.Nat.{ℕ}
-use mathlib.Core.Bool.{Bool, true, false}
+use mathlib.Core.Bool.{true, false}
 use mathlib.Core.List.{List}
 use lib.Dec.{leb}
 use lib.IntN.{ℤ}

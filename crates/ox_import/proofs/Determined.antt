@@ -1,5 +1,5 @@
 -- Each exported call's promise is met by one answer and one state of each lent table. Assumes nothing.
-use mathlib.Core.Path.{_≡_, sym, _∙_}
+use mathlib.Core.Path.{sym, _∙_}
 use denote.Ref.{now}
 use Rattle.text.proofs.Once.{OnceWith}
 use Rattle.ox_import.proofs.ox_plan_summary.Reads as ox-plan-summary

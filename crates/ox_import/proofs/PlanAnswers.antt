@@ -1,5 +1,5 @@
 -- A plan answered in numbers: its counts come from the fates in the rows. Assumes nothing.
-use mathlib.Core.Path.{_≡_, refl, sym, ap, _∙_}
+use mathlib.Core.Path.{_≡_, refl, ap, _∙_}
 use mathlib.Core.List.{List}
 use Prim.Native.Nat.{ℕ, _≤_}
 use lib.ListN.{length}
@@ -14,9 +14,8 @@ use Rattle.planner.specs.Planning.{Asked, readOf, planFor, plannedAs, PlannedTo
 use Rattle.planner.specs.declared.Planned.{Planned}
 use Rattle.planner.specs.declared.Planned.the-variants.{Made, Refused}
 use Rattle.planner.proofs.AnswerLaws.{made-within, made-few, made-counts}
-use Rattle.ox_import.specs.Plans.{noCounts, unplannedOf, ofPlanned, countsIn, planAnswer, InRows, ofLine}
+use Rattle.ox_import.specs.Plans.{unplannedOf, ofPlanned, countsIn, planAnswer, InRows, ofLine}
 use Rattle.ox_import.specs.declared.PlanAnswer.{PlanAnswer}
-use Rattle.ox_import.specs.declared.LineAnswer.{LineAnswer}
 
 -- the rows hold its records
 rows-hold : (a : Asked) (r : Planned) (table : List ℕ) (index fates cards : List (List ℕ)) → PlannedTo a r table index fates cards → InRows r fates

@@ -1,6 +1,5 @@
 // A plan of what a file would do to a log, in lent tables, and its summary. What is not said with an answer is 0.
 ghost use mathlib.Core.Path.{_≡_};
-ghost use Prim.Native.Nat.{_≤_};
 ghost use lib.ListN.{length};
 ghost use Rattle.summary.specs.Summary.{answerTo, outputAfter};
 ghost use Rattle.index.specs.Contacts.{plain};

@@ -16,7 +16,7 @@ use Rattle.refusals.specs.declared.Verdict.{Verdict}
 use Rattle.refusals.specs.declared.Verdict.the-variants.{Accepted, Refused}
 use Rattle.tables.specs.Table.{isFound}
 use Rattle.tables.specs.Bands.{bandNamed}
-use Rattle.tables.specs.Place.{absent, stands, bandPlace, spelled, noName, nameOf}
+use Rattle.tables.specs.Place.{absent, stands, bandPlace, spelled, nameOf}
 use Rattle.tables.specs.Place.{tidy, isEmpty}
 use Rattle.normalize.specs.Normal.{normalPlaces}
 use Rattle.normalize.specs.Classes.{classNumber, classNumbered, className, classNamed, classOf, spanOf}

@@ -1,5 +1,5 @@
 -- The answers of `specs/Texts.antt`, by the verdict on the texts. Assumes nothing.
-use mathlib.Core.Path.{_≡_, refl, sym, ap, _∙_}
+use mathlib.Core.Path.{_≡_, refl, ap, _∙_}
 use mathlib.Core.Bool.{Bool, true, false}
 use mathlib.Core.List.{List}
 use Prim.Native.Nat.{ℕ, _+_, _-_, _≤_, _<_}
@@ -22,12 +22,8 @@ use Rattle.refusals.specs.Refusals.{numberOf, placeOf, ofText, ofTexts}
 use Rattle.refusals.specs.declared.Refusal.{Refusal}
 use Rattle.refusals.specs.declared.Verdict.{Verdict}
 use Rattle.refusals.specs.declared.Verdict.the-variants.{Accepted, Refused}
-use Rattle.ox_text.specs.Texts.{answer, checkOf, trimOf, untoldOf, toldOf, blankOf, sameOf, sameRaisedOf, orderNumber, orderOf, findFrom, findOf, unnumberedOf, numberedOf, ofUnsigned, ofSigned, unsignedAnswer, signedAnswer}
-use Rattle.ox_text.specs.declared.Checked.{Checked}
-use Rattle.ox_text.specs.declared.Trimmed.{Trimmed}
+use Rattle.ox_text.specs.Texts.{checkOf, trimOf, untoldOf, toldOf, blankOf, sameOf, sameRaisedOf, orderNumber, orderOf, findFrom, findOf, unnumberedOf, numberedOf, ofUnsigned, ofSigned, unsignedAnswer, signedAnswer}
 use Rattle.ox_text.specs.declared.Told.{Told}
-use Rattle.ox_text.specs.declared.Ordered.{Ordered}
-use Rattle.ox_text.specs.declared.Found.{Found}
 use Rattle.ox_text.specs.declared.Numbered.{Numbered}
 
 -- a refusal, by its number and place

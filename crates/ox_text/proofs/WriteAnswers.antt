@@ -1,17 +1,15 @@
 -- A writing that had room, and one that had not. Assumes nothing.
-use mathlib.Core.Path.{_≡_, refl, sym, ap, _∙_}
+use mathlib.Core.Path.{_≡_, refl, _∙_}
 use mathlib.Core.List.{List}
-use Prim.Native.Nat.{ℕ, _+_, _≤_, _<_}
+use Prim.Native.Nat.{ℕ, _≤_, _<_}
 use native.Mathlib.Nat.{zero-add}
 use native.Mathlib.Omega.{arith}
 use lib.ListN.{length}
-use lib.Seq.{sets}
 use borrow.Author.Tests.{lt-ltb, le-ltb}
 use Rattle.output.specs.Put.{Put, Room}
 use Rattle.refusals.specs.Refusals.{numberOf}
 use Rattle.refusals.specs.declared.Refusal.the-variants.{ShortOutput}
-use Rattle.ox_text.specs.Writing.{writtenOf, outputOf, Wrote}
-use Rattle.ox_text.specs.declared.Written.{Written}
+use Rattle.ox_text.specs.Writing.{Wrote}
 
 module _ (was w : List ℕ) (k : ℕ) (e : k ≡ length w) where
   pub short : (n : ℕ) → length was < k → n ≡ numberOf ShortOutput → Wrote (record { refusal = n; length = 0 }) was was w

@@ -5,7 +5,6 @@ use Prim.Native.Nat.{ℕ}
 use lib.ListN.{length}
 use Rattle.refusals.specs.Refusals.{numberOf}
 use Rattle.refusals.specs.Written.{fitted}
-use Rattle.refusals.specs.declared.Refusal.the-variants.{ShortOutput}
 use Rattle.refusals.specs.declared.Written.{Written}
 use Rattle.refusals.specs.declared.Written.the-variants.{Bytes, Unwritten}
 use Rattle.headers.specs.Headers.{journalHeader, exportHeader}

@@ -1,5 +1,5 @@
 -- Each record has one of seven fates, so that the total is the number of records. Assumes nothing.
-use mathlib.Core.Path.{_≡_, refl, sym, ap, _∙_}
+use mathlib.Core.Path.{_≡_, refl, ap, _∙_}
 use mathlib.Core.Bool.{Bool, true, false}
 use mathlib.Core.List.{List, [], _∷_, _++_}
 use Prim.Native.Nat.{ℕ, zero, suc, _+_}
@@ -11,7 +11,7 @@ use Rattle.text.specs.Pick.{pick}
 use Rattle.contacts.specs.Contacts.{Contact}
 use Rattle.plan.specs.Entry.{Entry}
 use Rattle.plan.specs.Fates.{fateOf, fateAt, fatesTo, count}
-use Rattle.plan.specs.Plan.{Plan, planFrom, planned, totalOf, countsWith, countsOf, hitsOf, fatesOf}
+use Rattle.plan.specs.Plan.{planFrom, planned, totalOf, countsWith, countsOf, hitsOf}
 use Rattle.plan.proofs.CountLaws.{count-more}
 
 -- one more record is one more in the total, whichever fate it has

@@ -1,14 +1,13 @@
 -- The confirmations of a plan. They count once per contact and service, as already confirmed where the contact's byte has the service;
 -- unmatched ones once per call (trimmed and raised), band, mode and service.
-use mathlib.Core.Bool.{Bool, true, false, not}
+use mathlib.Core.Bool.{Bool, false, not}
 use mathlib.Core.List.{List, [], _∷_, _++_}
-use Prim.Native.Nat.{ℕ, zero, suc, _+_, _-_, _/_, _%_}
+use Prim.Native.Nat.{ℕ, zero, suc, _+_, _/_, _%_}
 use lib.Dec.{eqb}
 use lib.ListN.{length, getD}
 use Rattle.text.specs.Pick.{pick, both, either}
 use Rattle.text.specs.Space.{trimmed}
 use Rattle.letters.specs.Same.{same, sameRaised}
-use Rattle.tables.specs.declared.Place.{Place}
 use Rattle.contacts.specs.Contacts.{Contact, contact, idOf, servicesOf}
 use Rattle.chain.specs.Chain.{any}
 use Rattle.confirmations.specs.declared.Answer.{Answer}

@@ -4,7 +4,7 @@ use mathlib.Core.List.{List, [], _∷_, map}
 use Prim.Native.Nat.{ℕ, suc}
 use Rattle.refusals.specs.declared.Verdict.{Verdict}
 use Rattle.refusals.specs.declared.Verdict.the-variants.{Accepted, Refused}
-use Rattle.adif.specs.Records.{Outcome, records, refused}
+use Rattle.adif.specs.Records.{records, refused}
 use Rattle.adif.specs.Reading.{Row as Field, RowsRead}
 use Rattle.hand.specs.Rows.{numbered}
 use Rattle.rowcheck.specs.Check.{Row}

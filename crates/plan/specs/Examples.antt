@@ -1,6 +1,6 @@
 -- Worked examples.
 use mathlib.Core.Path.{_≡_, refl}
-use mathlib.Core.Bool.{Bool, true, false}
+use mathlib.Core.Bool.{true, false}
 use mathlib.Core.List.{List, [], _∷_}
 use Prim.Native.Nat.{ℕ}
 use lib.IntN.{pos}
@@ -25,7 +25,7 @@ use Rattle.confirmations.specs.declared.Answer.{Answer}
 use Rattle.plan.specs.Entry.{Entry}
 use Rattle.plan.specs.Fates.{matches, found, fateOf, repeats, fateAt, fatesTo, count}
 use Rattle.plan.specs.Confirmed.{hasBit, sameUnmatched, alike, counts, countedAt, newAt, oldAt, newTo, alreadyTo, unmatchedTo}
-use Rattle.plan.specs.Plan.{Plan, planFrom, planned, countsOf, fatesOf, totalOf}
+use Rattle.plan.specs.Plan.{planFrom, planned, fatesOf, totalOf}
 
 -- a contact in SSB on 40m, at so many seconds, with these answers
 abbrev ssb : List ℕ → Moment → List Answer → Entry

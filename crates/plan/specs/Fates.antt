@@ -1,11 +1,11 @@
 -- The fate of each record. 1 importable, 2 duplicate in the log, 3 duplicate of an earlier importable record, 4 unusable, 5 confirmed,
 -- 6 unmatched, 7 ignored.
-use mathlib.Core.Bool.{Bool, true, false}
+use mathlib.Core.Bool.{Bool, false}
 use mathlib.Core.List.{List, [], _∷_, _++_}
 use Prim.Native.Nat.{ℕ, zero, suc}
 use lib.IntN.{ℤ}
 use lib.Dec.{eqb, ltb}
-use lib.ListN.{length, getD}
+use lib.ListN.{getD}
 use Rattle.text.specs.Pick.{pick, both, either}
 use Rattle.times.specs.Moments.{momentOf}
 use Rattle.times.specs.Window.{isWithin}

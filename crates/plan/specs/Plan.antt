@@ -1,7 +1,7 @@
 -- What an import, or a download of confirmations, would do: `plan` and `plan_download`, over the contacts of a list in place of a
 -- database. Nothing is kept beside the fates that could be counted from them.
-use mathlib.Core.Bool.{Bool, true, false}
-use mathlib.Core.List.{List, [], map}
+use mathlib.Core.Bool.{Bool}
+use mathlib.Core.List.{List, map}
 use Prim.Native.Nat.{ℕ, _+_}
 use lib.IntN.{ℤ}
 use lib.ListN.{length}

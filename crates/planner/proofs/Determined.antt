@@ -1,5 +1,5 @@
 -- The promise of `plan` is met by one answer and one state of each lent table. Assumes nothing.
-use mathlib.Core.Path.{_≡_, sym, _∙_}
+use mathlib.Core.Path.{sym, _∙_}
 use denote.Ref.{now}
 use Rattle.index.proofs.ContactLaws.{plain-once}
 use Rattle.index.proofs.Agree.{Agrees, agree}

@@ -1,12 +1,10 @@
 -- The end of a plan, by its reading and by what the last phases answer. Assumes nothing.
-use mathlib.Core.Path.{_≡_, refl, sym, ap, _∙_}
-use mathlib.Core.Bool.{Bool, true, false}
+use mathlib.Core.Path.{_≡_, refl, sym, _∙_}
+use mathlib.Core.Bool.{Bool}
 use mathlib.Core.List.{List}
 use Prim.Native.Nat.{ℕ}
 use lib.IntN.{ℤ}
-use lib.Dec.{leb}
 use lib.ListN.{length, replicate}
-use Rattle.text.specs.Pick.{pick}
 use Rattle.refusals.specs.declared.Refusal.{Refusal}
 use Rattle.refusals.specs.declared.Refusal.the-variants.{ShortTable}
 use Rattle.reader.specs.declared.Reading.{Reading}
@@ -15,11 +13,10 @@ use Rattle.contacts.specs.declared.Listed.{Listed}
 use Rattle.contacts.specs.declared.Listed.the-variants.{Marked, Refused as RefusedList}
 use Rattle.indexing.specs.Index.{countIn}
 use Rattle.plan.specs.Plan.{Plan}
-use Rattle.entries.specs.Row.{Row}
 use Rattle.cards.specs.Carded.{noCard}
 use Rattle.cards.specs.declared.Carded.{Carded}
 use Rattle.cards.specs.declared.Carded.the-variants.{Counted, Full}
-use Rattle.closing.specs.Phases.{Searched, planRead, countedBy}
+use Rattle.closing.specs.Phases.{Searched, planRead}
 use Rattle.closing.specs.Closed.{closedTable, closedFates, closedCards, Closed}
 use Rattle.closing.proofs.CloseLaws.{counted-some, counted-full}
 use Rattle.planner.specs.Planning.{made}

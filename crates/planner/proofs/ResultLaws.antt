@@ -1,16 +1,15 @@
 -- From what each phase leaves to the definition. Assumes nothing.
 use mathlib.Core.Path.{_≡_, refl, sym, ap, _∙_}
 use mathlib.Core.Bool.{Bool, true, false}
-use mathlib.Core.List.{List, [], _∷_, _++_, map}
+use mathlib.Core.List.{List, _++_}
 use Prim.Native.Nat.{ℕ, _-_, _/_, _≤_, _<_}
 use native.Mathlib.Nat.{sub-zero}
 use native.Mathlib.Omega.{arith}
 use lib.IntN.{ℤ}
 use lib.Dec.{leb}
-use lib.ListN.{length, take, drop, replicate, length-replicate}
+use lib.ListN.{length, drop, replicate, length-replicate}
 use lib.Seq.{sets, length-sets}
 use Rattle.text.specs.Pick.{pick}
-use Rattle.text.proofs.BoolLaws.{cases}
 use Rattle.times.specs.Window.{limitOf}
 use Rattle.refusals.specs.declared.Refusal.{Refusal}
 use Rattle.refusals.specs.declared.Refusal.the-variants.{ShortTable}
@@ -18,23 +17,22 @@ use Rattle.chain.specs.Chain.{col}
 use Rattle.chain.proofs.Fronts.{clear-all}
 use Rattle.adif.specs.Records.{records, refused, total}
 use Rattle.adif.specs.Reading.{RowsRead, readText}
-use Rattle.reader.specs.Table.{tableOf, zeros}
+use Rattle.reader.specs.Table.{zeros}
 use Rattle.reader.specs.declared.Reading.{Reading}
 use Rattle.reader.specs.declared.Reading.the-variants.{Read, Refused as Unread}
-use Rattle.contacts.specs.Lists.{contactsOf, countOf, listedAs}
+use Rattle.contacts.specs.Lists.{countOf, listedAs}
 use Rattle.contacts.specs.declared.Listed.{Listed}
 use Rattle.contacts.specs.declared.Listed.the-variants.{Marked, Refused as RefusedList}
 use Rattle.contacts.proofs.ListLaws.{accepted}
 use Rattle.index.specs.Rows as Index
 use Rattle.indexing.specs.Index.{indexedAs, indexAfter, countIn}
 use Rattle.indexing.proofs.BuildLaws.{indexed-listed}
-use Rattle.search.specs.Search.{placeOf, Indexed}
-use Rattle.plan.specs.Entry.{entriesOf}
+use Rattle.search.specs.Search.{Indexed}
 use Rattle.plan.specs.Plan.{Plan, planned}
 use Rattle.entries.specs.Row.{Row, noRow}
 use Rattle.entries.specs.Filled.{ReadInto, entriesRead}
 use Rattle.entries.specs.Walked.{entryRows}
-use Rattle.entries.proofs.FilledLaws.{filled-length, filled-behind, filled-said, filled-answered, filled-bare}
+use Rattle.entries.proofs.FilledLaws.{filled-behind, filled-said, filled-answered, filled-bare}
 use Rattle.cards.specs.Carded.{noCard}
 use Rattle.logged.specs.Logged.{loggedRows, Searchable}
 use Rattle.logged.proofs.FoundLaws.{place-few}
@@ -43,7 +41,7 @@ use Rattle.fates.specs.Fated.{Found}
 use Rattle.opening.specs.Opened.{readBy, openedAs, openedTable, openedFates, Opened, recordsIn}
 use Rattle.opening.proofs.OpenLaws.{Known, opened-known, known-into}
 use Rattle.closing.specs.Phases.{Searched, planRead}
-use Rattle.planner.specs.Planning.{Asked, askedOf, asked, readOf, planFor, made, plannedRead, plannedBy, plannedAs, tableBy, indexBy, fatesBy, cardsBy, PlannedTo}
+use Rattle.planner.specs.Planning.{Asked, asked, readOf, planFor, made, plannedRead, plannedBy, plannedAs, tableBy, indexBy, fatesBy, cardsBy, PlannedTo}
 use Rattle.planner.specs.Finished.{largestIn, goneOf, Ready, finishedAs, finishedTable, finishedFates, finishedCards, Finished}
 use Rattle.planner.specs.declared.Planned.{Planned}
 use Rattle.planner.specs.declared.Planned.the-variants.{Made, Refused}

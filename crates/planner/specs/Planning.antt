@@ -8,18 +8,16 @@ use lib.IntN.{ℤ}
 use lib.Dec.{leb}
 use lib.ListN.{length, replicate}
 use Rattle.text.specs.Pick.{pick}
-use Rattle.refusals.specs.declared.Refusal.{Refusal}
 use Rattle.refusals.specs.declared.Refusal.the-variants.{ShortTable}
-use Rattle.adif.specs.Records.{Outcome, records, refused, total}
-use Rattle.adif.specs.Reading.{Row as Field, RowsRead, readText}
+use Rattle.adif.specs.Records.{records, refused, total}
+use Rattle.adif.specs.Reading.{RowsRead, readText}
 use Rattle.reader.specs.Table.{tableOf, zeros}
-use Rattle.contacts.specs.Contacts.{Contact}
 use Rattle.contacts.specs.Lists.{contactsOf}
 use Rattle.contacts.specs.declared.Listed.{Listed}
 use Rattle.contacts.specs.declared.Listed.the-variants.{Marked, Refused as RefusedList}
 use Rattle.index.specs.Rows as Index
 use Rattle.indexing.specs.Index.{indexedAs, indexAfter}
-use Rattle.plan.specs.Entry.{Entry, entriesOf}
+use Rattle.plan.specs.Entry.{entriesOf}
 use Rattle.plan.specs.Plan.{Plan, planned}
 use Rattle.entries.specs.Row.{Row, noRow}
 use Rattle.cards.specs.Carded.{cardRow, noCard}

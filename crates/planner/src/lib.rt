@@ -2,7 +2,6 @@
 // in place of a database. The phases are `indexing`, `opening`, `logged` and `closing`; each leaves nothing after a refusal, so that they
 // follow each other whatever the one before answered.
 ghost use mathlib.Core.Path.{_≡_};
-ghost use lib.ListN.{length};
 ghost use Rattle.index.specs.Contacts.{plain};
 ghost use Rattle.planner.specs.Planning.{asked, PlannedTo};
 ghost use Rattle.planner.specs.Finished.{largestIn, goneOf, Ready, Finished};

@@ -2,14 +2,14 @@
 use mathlib.Core.Path.{_≡_, refl, sym, ap, _∙_}
 use mathlib.Core.Bool.{Bool, true, false, not}
 use mathlib.Core.List.{List, []}
-use Prim.Native.Nat.{ℕ, _+_, _*_, _/_, _≤_, _<_}
+use Prim.Native.Nat.{ℕ, _*_, _/_, _≤_, _<_}
 use native.Mathlib.Omega.{arith}
 use lib.Dec.{leb}
 use lib.ListN.{length}
 use borrow.Author.Tests.{le-leb, lt-leb, leb-true, not-true, not-false}
 use Rattle.text.specs.Pick.{pick, both, either}
-use Rattle.text.proofs.BoolLaws.{both-left, both-right}
-use Rattle.refusals.specs.Written.{fitted, outputBy}
+use Rattle.text.proofs.BoolLaws.{both-right}
+use Rattle.refusals.specs.Written.{fitted}
 use Rattle.refusals.specs.declared.Refusal.{Refusal}
 use Rattle.refusals.specs.declared.Refusal.the-variants.{TooLong, BadRow, FrequencyTooHigh}
 use Rattle.refusals.specs.declared.Verdict.{Verdict}

@@ -1,21 +1,19 @@
 -- The extra rows, checked one after the other. Assumes nothing.
-use mathlib.Core.Path.{_≡_, refl, sym, ap, _∙_}
+use mathlib.Core.Path.{_≡_, refl, sym, _∙_}
 use mathlib.Core.Bool.{Bool, true, false, not}
 use mathlib.Core.List.{List, [], _∷_}
 use Prim.Native.Nat.{ℕ, zero, suc, _+_, _-_, _*_, _≤_, _<_}
 use native.Mathlib.Nat.{sub-zero}
 use native.Mathlib.Omega.{arith}
 use lib.Dec.{leb}
-use lib.ListN.{length, getD}
+use lib.ListN.{length}
 use borrow.Author.Tests.{not-true, le-leb}
-use Rattle.text.specs.Pick.{pick, both, either}
-use Rattle.letters.specs.Order.{orderRaised}
-use Rattle.refusals.specs.declared.Refusal.{Refusal}
-use Rattle.refusals.specs.declared.Refusal.the-variants.{BadRow, BadName, ManyNames, ManyRecords}
+use Rattle.text.specs.Pick.{pick, both}
+use Rattle.refusals.specs.declared.Refusal.the-variants.{BadRow, BadName, ManyNames}
 use Rattle.refusals.specs.declared.Verdict.{Verdict}
 use Rattle.refusals.specs.declared.Verdict.the-variants.{Accepted, Refused}
 use Rattle.adif.specs.Grammar.{Field}
-use Rattle.rowcheck.specs.Check.{Row, recordIn, nameIn, placed, sound, isLess, follows, writable, counted, verdict, isFine, andThen}
+use Rattle.rowcheck.specs.Check.{Row, nameIn, placed, sound, follows, writable, counted, verdict, isFine, andThen}
 use Rattle.rowcheck.proofs.FineLaws.{few-names, fine}
 use Rattle.writer.specs.Rows.{rowAt, rowsFrom, rowsOf}
 use Rattle.writer.proofs.RowLaws.{rows-cons}

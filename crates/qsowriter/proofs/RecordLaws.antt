@@ -1,14 +1,13 @@
 -- The fields of a contact's columns are those of the cells of its QSO. Assumes nothing.
 use mathlib.Core.Path.{_≡_, refl, sym, ap, _∙_}
 use mathlib.Core.Bool.{Bool, true, false}
-use mathlib.Core.List.{List, [], _∷_, _++_, map}
+use mathlib.Core.List.{List, [], _∷_, _++_}
 use mathlib.Core.Option.{Option, none, some}
 use Prim.Native.Nat.{ℕ, zero, suc, _≤_, _<_}
 use Prim.Native.String.{String}
 use native.Mathlib.Nat.{sub-zero}
 use native.Mathlib.Omega.{arith}
 use lib.Dec.{eqb, ltb}
-use lib.IntN.{ℤ, pos, negsuc}
 use lib.ListN.{length, drop}
 use borrow.Author.Tests.{ltb-true, ltb-false, eqb-true, ne-eqb, lt-ltb}
 use Rattle.text.specs.Ascii.{ascii}
@@ -19,7 +18,7 @@ use Rattle.normalize.specs.Normal.{unlessEmpty}
 use Rattle.tables.specs.Table.{entry}
 use Rattle.tables.specs.Bands.{bandNames}
 use Rattle.tables.specs.Modes.{modeNames}
-use Rattle.tables.specs.Place.{inText, part, value, bytes, orEmpty}
+use Rattle.tables.specs.Place.{part, value, bytes, orEmpty}
 use Rattle.tables.specs.declared.Place.{Place}
 use Rattle.columns.specs.Columns.{call, qsoDate, timeOn, band, mode, submode, bandRx, rstSent, rstRcvd, gridsquare}
 use Rattle.model.specs.Contact.{contact, hertz, signed, entity, placeOf}
@@ -27,7 +26,7 @@ use Rattle.model.specs.declared.Dxcc.{Dxcc}
 use Rattle.model.specs.declared.Frequency.{Frequency}
 use Rattle.model.specs.declared.Qso.{Qso}
 use Rattle.rowcheck.specs.Check.{Row}
-use Rattle.writer.specs.Rows.{rowsFrom, rowsOf, rowField}
+use Rattle.writer.specs.Rows.{rowsFrom, rowsOf}
 use Rattle.cells.specs.Cells.{columnOrder, numberText, cellText, isDropped, said, hasValue, wordsCell, bandCell, splitCell, megahertzCell, entityCell, cellsOf, cellFields}
 use Rattle.cells.specs.declared.Cell.{Cell}
 use Rattle.cells.specs.declared.Cell.the-variants.{Dropped, Words, Megahertz, Number}

@@ -1,19 +1,18 @@
 -- Worked examples.
 use mathlib.Core.Path.{_≡_, refl}
-use mathlib.Core.Bool.{true, false}
-use mathlib.Core.List.{List, [], _∷_, _++_}
+use mathlib.Core.Bool.{true}
+use mathlib.Core.List.{[], _∷_, _++_}
 use mathlib.Core.Option.{none, some}
-use Prim.Native.Nat.{ℕ}
 use lib.IntN.{negsuc}
 use Rattle.text.specs.Ascii.{ascii}
 use Rattle.decimal.specs.Digits.{digits, decimal}
 use Rattle.mhz.specs.Writing.{sixDecimals}
-use Rattle.refusals.specs.declared.Refusal.the-variants.{TooLong, FrequencyTooHigh, BadRow}
-use Rattle.refusals.specs.declared.Verdict.the-variants.{Accepted, Refused}
+use Rattle.refusals.specs.declared.Refusal.the-variants.{FrequencyTooHigh}
+use Rattle.refusals.specs.declared.Verdict.the-variants.{Refused}
 use Rattle.tables.specs.Place.{value}
 use Rattle.model.specs.Contact.{Contact, contact}
 use Rattle.model.specs.Answer.{noColumns, noFrequency, noDxcc, emptyQso}
-use Rattle.qsowriter.specs.Record.{field, columnFields, merged, recordOf}
+use Rattle.qsowriter.specs.Record.{field, columnFields, recordOf}
 use Rattle.qsowriter.specs.Writing.{contactWith, qsoText, qsoVerdict}
 use Rattle.fields.specs.Written.{fieldText}
 

@@ -1,7 +1,6 @@
 -- A contact as a record, as rigflow's `qso_to_record`: the fields of its columns and its extra fields, in byte order of their names.
 use Prim.Native.Nat.{ℕ, suc}
 use Prim.Native.String.{String}
-use mathlib.Core.Bool.{Bool, true, false}
 use mathlib.Core.List.{List, [], _∷_, _++_}
 use mathlib.Core.Option.{Option, none, some}
 use lib.IntN.{ℤ, pos, negsuc}

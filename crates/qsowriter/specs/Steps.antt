@@ -1,6 +1,6 @@
 -- The steps of the check of a QSO's extra rows.
 use Prim.Native.Nat.{ℕ, _+_}
-use mathlib.Core.Bool.{Bool, true, false}
+use mathlib.Core.Bool.{Bool, false}
 use mathlib.Core.List.{List, [], _∷_}
 use lib.ListN.{getD}
 use Rattle.text.specs.Pick.{pick, either}

@@ -1,8 +1,7 @@
 -- A record closed and a reading finished, by the tests that the code makes. Assumes nothing.
 use mathlib.Core.Path.{_≡_, refl, sym, ap, _∙_}
-use mathlib.Core.Bool.{Bool, true, false}
 use mathlib.Core.List.{List, [], _∷_, _++_}
-use Prim.Native.Nat.{ℕ, zero, suc, _+_, _*_, _-_, _/_, _≤_, _<_}
+use Prim.Native.Nat.{ℕ, _+_, _*_, _-_, _/_, _≤_, _<_}
 use native.Mathlib.Omega.{arith}
 use lib.ListN.{length, take, length-append}
 use lib.Seq.{sets, length-take-le}
@@ -11,12 +10,11 @@ use borrow.Author.Tests.{lt-ltb, le-ltb, le-leb, lt-leb}
 use Rattle.text.specs.Pick.{pick}
 use Rattle.refusals.specs.declared.Refusal.{Refusal}
 use Rattle.refusals.specs.declared.Refusal.the-variants.{ManyRecords, FewRows}
-use Rattle.adif.specs.Records.{Turn, on, no, records, refused, then, total, close, finish}
-use Rattle.adif.specs.Reading.{Row, RowsRead, rows}
+use Rattle.adif.specs.Records.{on, no, records, refused, total, close, finish}
+use Rattle.adif.specs.Reading.{Row, rows}
 use Rattle.hand.specs.Rows.{laid}
-use Rattle.reader.specs.Table.{laidFrom, answerOf, Shown}
+use Rattle.reader.specs.Table.{laidFrom}
 use Rattle.reader.specs.Stands.{Stands, Closing, Closes, Finished, Finishes}
-use Rattle.reader.specs.declared.Reading.{Reading}
 use Rattle.reader.specs.declared.Reading.the-variants.{Read, Refused}
 use Rattle.reader.specs.declared.Closed.{Closed}
 use Rattle.reader.specs.declared.Closed.the-variants

@@ -1,16 +1,16 @@
 -- The rows of records as they lie in a table, and the zeros behind them. Assumes nothing.
 use mathlib.Core.Path.{_≡_, refl, sym, ap, _∙_}
 use mathlib.Core.List.{List, [], _∷_, _++_, append-assoc, append-nil}
-use Prim.Native.Nat.{ℕ, zero, suc, _+_, _*_, _-_, _≤_, _<_}
-use native.Mathlib.Nat.{add-zero, zero-add}
-use native.Mathlib.Numerals.{add-one}
+use Prim.Native.Nat.{ℕ, zero, suc, _+_, _*_, _-_, _≤_}
+use native.Mathlib.Nat.{add-zero}
 use native.Mathlib.Omega.{arith}
 use lib.ListN.{length, take, drop, set, replicate, length-append, length-replicate, replicate-append-replicate, drop-of-length-le}
 use lib.Seq.{sets, length-sets, sets-eq, take-at}
 use Rattle.adif.specs.Records.{total}
 use Rattle.adif.specs.Reading.{Row}
 use Rattle.hand.specs.Rows.{laid}
-use Rattle.hand.proofs.TableLaws.{sets-append, laid-length}
+use Rattle.text.proofs.StoreLaws.{sets-append}
+use Rattle.hand.proofs.TableLaws.{laid-length}
 use Rattle.reader.specs.Table.{laidFrom, zeros}
 
 pub laidFrom-length : (n : ℕ) (rs : List (List Row)) → length (laidFrom n rs) ≡ 5 * total rs

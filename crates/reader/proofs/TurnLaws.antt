@@ -1,31 +1,27 @@
 -- A turn of the reading, by the tag at its place. Assumes nothing.
-use mathlib.Core.Path.{_≡_, refl, sym, ap, _∙_}
-use mathlib.Core.Bool.{Bool, true, false}
-use mathlib.Core.List.{List, [], _∷_, _++_}
+use mathlib.Core.Path.{_≡_, refl, _∙_}
+use mathlib.Core.List.{List, [], _∷_}
 use Prim.Native.Nat.{ℕ, _+_, _/_, _≤_, _<_}
 use native.Mathlib.Omega.{arith}
-use lib.ListN.{length, take}
+use lib.ListN.{length}
 use mir.Syntax.{w32, w64}
 use mir.Val.{Fits}
 use lib.Dec.{leb}
 use borrow.Author.Tests.{le-leb}
-use Rattle.text.specs.Run.{Next, go, stop}
 use Rattle.refusals.specs.declared.Refusal.{Refusal}
 use Rattle.refusals.specs.declared.Refusal.the-variants.{ManyNames}
 use Rattle.tags.specs.Tags.{tagAt}
-use Rattle.tags.specs.Ahead.{Ahead}
 use Rattle.tags.specs.declared.Tag.{Tag}
 use Rattle.tags.specs.declared.Tag.the-variants
 use Rattle.tags.proofs.AheadLaws.{ahead}
 use Rattle.adif.specs.Records
-use Rattle.adif.specs.Records.{eor, field, on, no, records, refused, then, close, finish, put, act}
-use Rattle.adif.specs.Reading.{Row, RowsRead, State, rowName, rows, onto, readBy}
+use Rattle.adif.specs.Records.{eor, field, on, refused, close, finish, put, act}
+use Rattle.adif.specs.Reading.{Row, rowName, rows, onto}
 use Rattle.hand.specs.Rows.{Inserted}
 use Rattle.hand.specs.declared.Kept.{Kept}
 use Rattle.hand.specs.declared.Kept.the-variants.{Used, Full}
 use Rattle.hand.proofs.InsertLaws.{used-is, full-is}
-use Rattle.reader.specs.Table.{answerOf, Shown}
-use Rattle.reader.specs.Stands.{Stands, Closing, Closes, Finished, Finishes, Turned, Turns, ofClosed, ofKept}
+use Rattle.reader.specs.Stands.{Stands, Closing, Closes, Finishes, Turned, Turns, ofClosed, ofKept}
 use Rattle.reader.specs.declared.Reading.{Reading}
 use Rattle.reader.specs.declared.Reading.the-variants.{Read, Refused}
 use Rattle.reader.specs.declared.Closed.{Closed}

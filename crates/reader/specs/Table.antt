@@ -3,8 +3,7 @@ use mathlib.Core.Path.{_≡_}
 use mathlib.Core.List.{List, [], _∷_, _++_}
 use Prim.Native.Nat.{ℕ, suc, _+_, _*_, _-_, _/_, _≤_}
 use lib.ListN.{length, take, replicate}
-use Rattle.refusals.specs.declared.Refusal.{Refusal}
-use Rattle.adif.specs.Records.{Outcome, records, refused, total}
+use Rattle.adif.specs.Records.{records, refused, total}
 use Rattle.adif.specs.Reading.{Row, RowsRead, readText}
 use Rattle.hand.specs.Rows.{laid}
 use Rattle.reader.specs.declared.Reading.{Reading}

@@ -1,7 +1,7 @@
 -- The round trip of the code, from the writer's and the reader's own promises. Assumes nothing.
 use mathlib.Core.Path.{_≡_, refl, sym, ap, _∙_}
 use mathlib.Core.List.{List, [], _∷_, _++_}
-use Prim.Native.Nat.{ℕ, _/_, _^_, _≤_, _<_}
+use Prim.Native.Nat.{ℕ, _/_, _≤_}
 use native.Mathlib.Omega.{arith}
 use lib.ListN.{length, take, length-take}
 use Rattle.refusals.specs.declared.Refusal.{Refusal}
@@ -18,7 +18,7 @@ use Rattle.writer.specs.Answer.{answerOf, outputOf}
 use Rattle.trip.specs.File.{Front, bare, frontText, Fit}
 use Rattle.trip.proofs.Trip.{Fits, rows-fit}
 use Rattle.trip.proofs.Promised.{taken, text-small, bytes-few, trip-promised}
-use Rattle.roundtrip.specs.Trip.{tripBy, tableBy, tripOf, tableOf, SaysBy, SaysSame}
+use Rattle.roundtrip.specs.Trip.{tripOf, tableOf, SaysSame}
 use Rattle.roundtrip.specs.declared.Trip.the-variants.{Back, Refused}
 use Rattle.roundtrip.proofs.TableLaws.{AllSome, records-total, answer-is, says-again}
 

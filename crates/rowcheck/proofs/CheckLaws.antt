@@ -1,12 +1,12 @@
 -- Laws of `specs/Check.antt`, as the code asks them. Assumes nothing.
-use mathlib.Core.Path.{_≡_, refl, sym, ap, _∙_}
+use mathlib.Core.Path.{_≡_, ap, _∙_}
 use mathlib.Core.Bool.{Bool, true, false, not}
 use mathlib.Core.List.{List}
 use Prim.Native.Nat.{ℕ, _+_, _≤_, _<_}
 use lib.ListN.{length, getD}
 use lib.Dec.{leb, ltb, eqb}
 use borrow.Author.Tests.{not-true, not-false, eq-eqb, ne-eqb, le-leb, lt-leb}
-use Rattle.text.specs.Pick.{pick, both, either}
+use Rattle.text.specs.Pick.{both, either}
 use Rattle.text.specs.Walk.{ends}
 use Rattle.text.specs.Find.{other}
 use Rattle.text.specs.Utf8.{utf8}

@@ -2,7 +2,7 @@
 use mathlib.Core.Path.{_≡_, refl, sym, ap, _∙_}
 use mathlib.Core.Bool.{Bool, true, false, not}
 use mathlib.Core.List.{List, [], _∷_}
-use Prim.Native.Nat.{ℕ, zero, suc, _+_, _-_, _*_, _/_, _%_, _≤_, _<_}
+use Prim.Native.Nat.{ℕ, zero, suc, _+_, _-_, _%_, _≤_, _<_}
 use native.Mathlib.Nat.{mod-lt, div-add-mod', add-zero}
 use native.Mathlib.Omega.{arith}
 use lib.ListN.{length, getD}
@@ -10,8 +10,7 @@ use lib.Dec.{eqb, leb, ltb}
 use lib.IntN.{ℤ, pos, negsuc}
 use borrow.Author.Tests.{eq-eqb, ne-eqb, not-true, not-false, leb-true, leb-false, lt-ltb, le-ltb}
 use Rattle.text.specs.Pick.{pick, both}
-use Rattle.text.proofs.BoolLaws.{cases, never, both-left, both-right}
-use Rattle.letters.specs.Capitals.{capitals}
+use Rattle.text.proofs.BoolLaws.{cases, never, both-left, both-right, both-no, both-yes}
 use Rattle.letters.specs.Same.{same, sameRaised}
 use Rattle.letters.proofs.SameLaws.{same-true, same-raised-true}
 use Rattle.tables.specs.Place.{bytes}
@@ -19,10 +18,10 @@ use Rattle.times.specs.Moments.{momentOf}
 use Rattle.times.specs.Window.{apart, reaches, isWithin, limitOf}
 use Rattle.times.specs.declared.Moment.{Moment}
 use Rattle.times.specs.declared.Moment.the-variants.{At, Never}
-use Rattle.chain.specs.Chain.{over, first, orElse, col, Linked}
-use Rattle.chain.proofs.Chains.{over-hit, over-miss, over-same}
-use Rattle.chain.proofs.Walks.{First, first-start, first-on, first-end, next-less}
-use Rattle.contacts.specs.Contacts.{Contact, contact, callOf, dateOf, timeOf, bandOf, modeOf}
+use Rattle.chain.specs.Chain.{over, first, orElse, col}
+use Rattle.chain.proofs.Chains.{over-hit, over-miss}
+use Rattle.chain.proofs.Walks.{First, or-or, first-start, first-on, first-end, next-less}
+use Rattle.contacts.specs.Contacts.{Contact, contact, callOf, bandOf, modeOf}
 use Rattle.contacts.specs.Lists.{textAt, callAt, dateAt, timeAt, bandAt, modeAt, contactAt, contactsFrom, contactsOf, countOf}
 use Rattle.index.specs.Rows.{Row, low, high, joined, hasMoment, secondsIn, momentFrom, codeOf, rowOf, rowBy, rowAt}
 use Rattle.index.specs.Contacts.{numbersOf, noContact, plain}
@@ -86,10 +85,6 @@ match-code call mode band moment limit c e =
 or-none : (a : ℕ) → orElse a 0 ≡ a
 or-none zero = refl
 or-none (suc a) = refl
-
-or-or : (a j x : ℕ) → orElse (orElse a (suc j)) x ≡ orElse a (suc j)
-or-or zero j x = refl
-or-or (suc a) j x = refl
 
 first-across : (P : ℕ → Bool) (p : Contact → Bool) (d : Contact) (cs : List Contact) (k : ℕ) → ((i : ℕ) → i < length cs → P (k + i) ≡ p (getD cs i d)) → orElse (first P k) (firstFrom p k cs) ≡ first P (k + length cs)
 unfolding firstFrom
@@ -255,27 +250,19 @@ module _ (s : List ℕ) (row : Row) (text : List ℕ) (w : Wanted) (limit code :
   unfolding rowTested
   match-other p e n = rw (ne-eqb (getD row 2 0) code (λ z. n (e ∙ z))) refl
 
-  no-both : (a : Bool) → both a false ≡ false
-  no-both true = refl
-  no-both false = refl
-
-  yes-both : (a : Bool) → both a true ≡ a
-  yes-both true = refl
-  yes-both false = refl
-
   module _ (p : ℕ) (x : Moment) (t : Bool) (e : p ≡ getD row 2 0) (f : p ≡ code) (ex : x ≡ rowMoment row) (et : t ≡ near (w .moment) x limit) where
     pub match-far : not t ≡ true → false ≡ Test
     unfolding rowTested rowMatches
     match-far n =
         let u : near (w .moment) (rowMoment row) limit ≡ false = rw (← ex, ← et) (not-true t n) in
-        rw (eq-eqb (getD row 2 0) code (sym e ∙ f), u) (sym (no-both Own))
+        rw (eq-eqb (getD row 2 0) code (sym e ∙ f), u) (sym (both-no Own))
 
     pub match-key : not t ≡ false → (a b d : ℕ) (k : Key) (r : Bool) → a ≡ getD row 6 0 → b ≡ getD row 10 0 → d ≡ getD row 9 0 → k ≡ keyAt s a b d → r ≡ keysInLog text (w .key) s k → r ≡ Test
     unfolding rowTested rowMatches keysInLog keyAt
     match-key n a b d k r ea eb ed ek er =
         let u : near (w .moment) (rowMoment row) limit ≡ true = rw (← ex, ← et) (not-false t n) in
         let q : r ≡ Own = er ∙ rw (ek, ea, eb, ed, place-says s (getD row 6 0), place-says s (getD row 10 0), place-says s (getD row 9 0)) refl in
-        rw (eq-eqb (getD row 2 0) code (sym e ∙ f), u) (q ∙ sym (yes-both Own))
+        rw (eq-eqb (getD row 2 0) code (sym e ∙ f), u) (q ∙ sym (both-yes Own))
 
 pub entry-low : (row : Row) (call : ℕ) → call ≡ getD row 6 0 → call < 11 → 0 ≡ entryIn row
 unfolding entryIn

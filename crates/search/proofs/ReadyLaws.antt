@@ -1,11 +1,11 @@
 -- The index of a list is ready to be searched: its records are those of the contacts, in chains. Assumes nothing.
-use mathlib.Core.Path.{_≡_, refl, sym, ap, _∙_}
-use mathlib.Core.List.{List, [], _∷_, _++_}
-use Prim.Native.Nat.{ℕ, zero, suc, _+_, _-_, _*_, _/_, _%_, _≤_, _<_}
+use mathlib.Core.Path.{_≡_, refl, ap, _∙_}
+use mathlib.Core.List.{List, [], _++_}
+use Prim.Native.Nat.{ℕ, zero, suc, _+_, _-_, _≤_, _<_}
 use native.Mathlib.Nat.{le-of-suc-le-suc, not-suc-le-zero}
 use native.Mathlib.Omega.{arith}
 use lib.ListN.{length, getD, replicate, length-append, length-replicate, List·getD-append}
-use Rattle.chain.specs.Chain.{col, Linked}
+use Rattle.chain.specs.Chain.{Linked}
 use Rattle.contacts.specs.Contacts.{Contact}
 use Rattle.contacts.specs.Lists.{contactAt, contactsFrom, countOf, endAt}
 use Rattle.contacts.proofs.ListLaws.{accepted}

@@ -1,7 +1,6 @@
 -- Worked examples, on the first day of year 0.
 use mathlib.Core.Path.{_≡_, refl}
 use mathlib.Core.List.{List, [], _∷_}
-use Prim.Native.Nat.{ℕ}
 use Rattle.text.specs.Ascii.{ascii}
 use Rattle.text.specs.Walk.{lead}
 use Rattle.text.specs.Space.{space1, space2, space3, space80, spaceLen, spaceBack, width, trimStart, trimEnd, trimmed}

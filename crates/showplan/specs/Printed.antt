@@ -1,5 +1,5 @@
 -- What `showplan` prints of a text: the plan against an empty list at 1800 seconds, in tables of 3,000 rows and an index of one record.
-use mathlib.Core.Bool.{Bool, false}
+use mathlib.Core.Bool.{false}
 use mathlib.Core.List.{List, [], _∷_}
 use Prim.Native.Nat.{ℕ}
 use lib.IntN.{ℤ, pos}

@@ -1,21 +1,17 @@
 -- Sizes that stop at 16,777,217. Assumes nothing.
-use mathlib.Core.Path.{_≡_, refl, sym, ap, _∙_}
+use mathlib.Core.Path.{_≡_, ap, _∙_}
 use mathlib.Core.Bool.{Bool, true, false}
-use mathlib.Core.List.{List, [], _∷_, _++_}
-use Prim.Native.Nat.{ℕ, _+_, _≤_, _<_}
-use native.Mathlib.Nat.{add-zero, zero-add}
+use mathlib.Core.List.{List, _++_}
+use Prim.Native.Nat.{ℕ, _+_}
+use native.Mathlib.Nat.{add-zero}
 use native.Mathlib.Omega.{arith}
 use lib.ListN.{length, length-append}
-use lib.Dec.{leb}
-use borrow.Author.Tests.{le-leb, lt-leb, leb-true, leb-false}
-use Rattle.text.specs.Pick.{pick}
 use Rattle.text.specs.Space.{blank, trimmed}
-use Rattle.fields.specs.Written.{fieldText, endOfHeader}
+use Rattle.fields.specs.Written.{fieldText}
 use Rattle.fields.specs.Parts.{fieldAs}
 use Rattle.station.specs.Station.{filled, stationText}
 use Rattle.headers.specs.Answer.{capped, cappedAfter}
-use Rattle.station.proofs.TextLaws.{station-text}
-use Rattle.headers.proofs.SizeLaws.{after, two-sizes, three-sizes, first-sizes}
+use Rattle.headers.proofs.SizeLaws.{after}
 
 -- ---- one field more
 module _ (name value : List ℕ) where

@@ -1,16 +1,16 @@
 -- The texts in the parts in which they are put. Assumes nothing.
-use mathlib.Core.Path.{_≡_, refl, sym, ap, _∙_}
+use mathlib.Core.Path.{_≡_, refl, ap}
 use mathlib.Core.Bool.{Bool, true, false}
 use mathlib.Core.List.{List, [], _∷_, _++_, append-assoc, append-nil}
 use Prim.Native.Nat.{ℕ}
 use Rattle.text.specs.Pick.{pick}
 use Rattle.text.specs.Space.{blank, trimmed}
 use Rattle.adif.specs.Grammar.{Field}
-use Rattle.fields.specs.Written.{fieldText, fieldsText, endOfHeader}
+use Rattle.fields.specs.Written.{fieldText, fieldsText}
 use Rattle.fields.specs.Parts.{fieldAs}
 use Rattle.output.specs.Put.{Put, Room}
-use Rattle.output.proofs.PutLaws.{put-none, put-then, room-first, room-next, room-second, room-third, put-three}
-use Rattle.station.specs.Station.{myCounty, myCqZone, myGridsquare, myItuZone, myName, myState, operator, stationCallsign, given, stationFields, stationText, filled}
+use Rattle.output.proofs.PutLaws.{put-none, room-first, room-second, room-third, put-three}
+use Rattle.station.specs.Station.{myCounty, myCqZone, myGridsquare, myItuZone, myName, myState, operator, stationCallsign, given, stationText, filled}
 
 -- ---- a station's fields
 given-text : (name v : List ℕ) (rest : List Field) → fieldsText (given name v rest) ≡ filled name v ++ fieldsText rest

@@ -1,11 +1,11 @@
 -- How long the parts of the line are. Assumes nothing.
-use mathlib.Core.Path.{_≡_, refl, sym, ap, _∙_}
-use mathlib.Core.List.{List, [], _∷_, _++_}
-use Prim.Native.Nat.{ℕ, _+_, _<_}
+use mathlib.Core.Path.{_≡_, refl, ap}
+use mathlib.Core.List.{List, _++_}
+use Prim.Native.Nat.{ℕ, _+_}
 use native.Mathlib.Omega.{arith}
 use lib.ListN.{length, length-append}
 use Rattle.text.specs.Ascii.{ascii}
-use Rattle.decimal.specs.Digits.{digits, decimal}
+use Rattle.decimal.specs.Digits.{decimal}
 use Rattle.summary.specs.declared.Counts.{Counts}
 use Rattle.summary.specs.Summary.{counted, dot, further, part, found, confirmed, leftOut, summaryText}
 use Rattle.summary.proofs.LineLaws.{counted-one, counted-many, part-none, part-some}

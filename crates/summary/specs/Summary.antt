@@ -1,6 +1,5 @@
 -- The one line that sums a plan up, after `ImportPlan::summary`: how many records there are and how many are to be imported; and then,
 -- each only where it is not zero, what is confirmed, what is skipped and what is left out.
-use mathlib.Core.Bool.{Bool}
 use mathlib.Core.List.{List, [], _∷_, _++_}
 use Prim.Native.Nat.{ℕ}
 use lib.ListN.{length}

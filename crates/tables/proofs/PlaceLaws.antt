@@ -1,14 +1,14 @@
 -- Laws of places: what the functions that make and read them ask. Assumes nothing.
 use mathlib.Core.Path.{_≡_, refl, sym, ap, _∙_}
 use mathlib.Core.Bool.{Bool, true, false}
-use mathlib.Core.List.{List, [], _∷_}
+use mathlib.Core.List.{List, []}
 use Prim.Native.Nat.{ℕ, _+_, _-_, _≤_, _<_}
 use native.Mathlib.Omega.{arith}
 use lib.Dec.{T, leb}
-use lib.ListN.{length, getD, take, drop, length-take, length-drop, drop-of-length-le}
+use lib.ListN.{length, take, drop, length-take, length-drop, drop-of-length-le}
 use lib.Seq.{take-all, length-take-le, take-nil}
 use borrow.Author.Tests.{leb-true}
-use Rattle.text.specs.Pick.{pick, either}
+use Rattle.text.specs.Pick.{pick}
 use Rattle.text.specs.Space.{trimStart, trimEnd, trimmed}
 use Rattle.text.proofs.SpaceLaws.{rest, end-le}
 use Rattle.tables.specs.Table.{Columns}

@@ -12,11 +12,10 @@ use lib.ListN.{length, getD, drop, take, List·getD-eq-default}
 use lib.Seq.{drop-nil}
 use borrow.Author.Tests.{le-leb, lt-leb, leb-true, ltb-true}
 use Rattle.text.specs.Pick.{both}
-use Rattle.text.proofs.Utf8Laws.{both-no}
-use Rattle.text.proofs.BoolLaws.{both-left, both-right}
+use Rattle.text.proofs.BoolLaws.{both-left, both-right, both-no}
 use Rattle.letters.specs.Same.{sameRaised}
 use Rattle.tables.specs.Table.{firstFrom, named, cut, entry, Columns}
-use Rattle.tables.specs.Bands.{Band, bounded, holds, below, apart}
+use Rattle.tables.specs.Bands.{bounded, holds, below, apart}
 use Rattle.tables.specs.Place.{spelled, orEmpty, nameAt}
 use Rattle.tables.specs.declared.Found.{Found}
 use Rattle.tables.specs.declared.Found.the-variants.{At, Nothing}

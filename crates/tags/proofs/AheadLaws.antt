@@ -1,7 +1,7 @@
 -- The first tag from `at` on is ahead of `at`. Assumes nothing.
 use mathlib.Core.Path.{_≡_, refl}
 use mathlib.Core.Bool.{Bool, true, false}
-use Prim.Native.Nat.{ℕ, _+_, _-_, _^_, _≤_, _<_}
+use Prim.Native.Nat.{ℕ, _+_, _-_, _≤_, _<_}
 use native.Mathlib.Omega.{arith}
 use mathlib.Core.List.{List}
 use lib.ListN.{length, getD, take, drop, length-take, length-drop}
@@ -10,7 +10,7 @@ use borrow.Author.Tests.{eqb-true, ltb-true, leb-true}
 use Rattle.text.specs.Pick.{pick}
 use Rattle.text.specs.Walk.{ends}
 use Rattle.text.specs.Find.{other}
-use Rattle.text.specs.Space.{trimStart, trimEnd}
+use Rattle.text.specs.Space.{trimStart}
 use Rattle.text.specs.Utf8.{cont}
 use Rattle.text.proofs.SpaceLaws.{start-le, end-le}
 use Rattle.decimal.specs.declared.Unsigned.{Unsigned}
@@ -19,8 +19,7 @@ use Rattle.tags.specs.Tags.{lt, gt, colonAt, nameAt, nameLength, namePla
 use Rattle.tags.specs.Ahead.{Ahead}
 use Rattle.tags.specs.declared.Kind.{Kind}
 use Rattle.tags.specs.declared.Kind.the-variants.{EndOfHeader, EndOfRecord, EndOfFile, FieldName}
-use Rattle.tags.specs.declared.Tag.{Tag}
-use Rattle.tags.specs.declared.Tag.the-variants.{Eoh, Eor, Field}
+use Rattle.tags.specs.declared.Tag.the-variants.{Field}
 
 pick-elim : {A : Type 0} (P : A → Type 0) (t : Bool) (x y : A) → (t ≡ true → P x) → (t ≡ false → P y) → P (pick t x y)
 pick-elim P true x y f g = f refl

@@ -1,13 +1,12 @@
 -- In UTF-8 text a value, which starts behind a `>`, is UTF-8 exactly if it ends between two characters: so 7 is given exactly where the
 -- value is not UTF-8. Assumes nothing.
-use mathlib.Core.Path.{_≡_, refl, sym, ap, _∙_}
+use mathlib.Core.Path.{_≡_, refl, sym, _∙_}
 use mathlib.Core.Bool.{Bool, true, false}
 use mathlib.Core.List.{List}
 use Prim.Native.Nat.{ℕ, _+_, _-_, _≤_, _<_}
 use native.Mathlib.Omega.{arith}
-use native.Mathlib.Nat.{add-zero}
 use lib.ListN.{length, getD, take, drop, length-drop, List·getD-eq-default}
-use lib.Seq.{getD-drop, drop-drop, length-take-le, take-all}
+use lib.Seq.{drop-drop}
 use lib.Dec.{eqb, ltb, lit≤}
 use borrow.Author.Tests.{eq-eqb, ne-eqb, ltb-true, ltb-false}
 use Rattle.text.specs.Pick.{pick}

@@ -1,14 +1,14 @@
 -- One answer more, and what a record confirms. Assumes nothing.
-use mathlib.Core.Path.{_≡_, refl, sym, ap, _∙_}
+use mathlib.Core.Path.{_≡_, refl, sym, _∙_}
 use mathlib.Core.Bool.{Bool, true, false, not}
 use mathlib.Core.List.{List, [], _∷_}
-use Prim.Native.Nat.{ℕ, _+_, _-_, _*_, _≤_, _<_}
+use Prim.Native.Nat.{ℕ, _+_, _-_, _*_, _≤_}
 use native.Mathlib.Omega.{arith}
 use lib.Dec.{eqb}
 use lib.ListN.{length, getD, set}
 use lib.Seq.{set-out}
 use borrow.Author.Tests.{eq-eqb, ne-eqb}
-use Rattle.text.specs.Pick.{pick, both, either}
+use Rattle.text.specs.Pick.{both, either}
 use Rattle.contacts.specs.Lists.{idAt, servicesAt}
 use Rattle.index.specs.Rows.{low, high}
 use Rattle.confirmations.specs.declared.Answer.{Answer}
@@ -16,7 +16,7 @@ use Rattle.plan.specs.Confirmed.{hasBit}
 use Rattle.entries.specs.Row.{oneIf}
 use Rattle.tallies.specs.declared.Tally.{Tally}
 use Rattle.tallies.specs.declared.Target.{Target}
-use Rattle.tallies.specs.Tallies.{target, targetIn, targetOf, isNew, isOld, isLost, tallyWith, cardFor, unmarked, bitsOf, servicesIn}
+use Rattle.tallies.specs.Tallies.{target, targetIn, targetOf, isNew, isOld, isLost, tallyWith, cardFor, bitsOf, servicesIn}
 
 pub counted-one : (n r : ℕ) (counts : Bool) → counts ≡ true → r ≡ n + 1 → r ≡ n + oneIf counts
 counted-one n r counts h e = rw h e

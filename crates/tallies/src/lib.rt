@@ -1,7 +1,7 @@
 // The count of confirmations, and the answers of a record, one after the other.
 ghost use mathlib.Core.Path.{_≡_};
 ghost use Prim.Native.Nat.{_+_, _≤_, _<_};
-ghost use lib.ListN.{length, set};
+ghost use lib.ListN.{set};
 ghost use Rattle.entries.specs.Row.{oneIf};
 ghost use Rattle.tallies.specs.Tallies.{targetIn, targetOf, isNew, isOld, isLost, tallyWith, cardFor, unmarked, bitsOf, servicesIn, Few, Grown};
 use confirmations::Answer;

@@ -23,6 +23,14 @@ both-right false b e = never false e refl
 pub both-true : (a b : Bool) → a ≡ true → b ≡ true → both a b ≡ true
 both-true a b p q = rw (p, q) refl
 
+pub both-no : (t : Bool) → both t false ≡ false
+both-no true = refl
+both-no false = refl
+
+pub both-yes : (t : Bool) → both t true ≡ t
+both-yes true = refl
+both-yes false = refl
+
 pub either-none : (a : Bool) → either a false ≡ a
 either-none true = refl
 either-none false = refl

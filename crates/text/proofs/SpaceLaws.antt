@@ -14,9 +14,9 @@ use Rattle.text.specs.Pick.{both, within}
 use Rattle.text.specs.Space.{space1, space2, space3, space80, spaceLen, spaceBack, width, trimStart, trimEnd, trimmed, blank}
 use Rattle.text.specs.Find.{other}
 use Rattle.text.specs.Walk.{ends, lead}
-use Rattle.text.proofs.BoolLaws.{both-left, both-right}
+use Rattle.text.proofs.BoolLaws.{both-left, both-right, both-no}
 use Rattle.text.proofs.Walks.{here, on, out, lead-le}
-use Rattle.text.proofs.Utf8Laws.{pick-le, both-no}
+use Rattle.text.proofs.Utf8Laws.{pick-le}
 
 module _ (s : List ℕ) (i n x y z : ℕ) (p q r : Bool) (ex : x ≡ getD s i 0) (ey : y ≡ getD s (i + 1) 0) (ez : z ≡ getD s (i + 2) 0) (ep : p ≡ space1 x) (e : n ≡ width p q r) where
   pub front : q ≡ space2 x y → r ≡ space3 x y z → n ≡ spaceLen (drop i s)

@@ -1,7 +1,7 @@
 -- Laws of `specs/Utf8.antt`. Assumes nothing.
-use mathlib.Core.Path.{_≡_, refl, sym, subst}
+use mathlib.Core.Path.{_≡_}
 use mathlib.Core.Bool.{Bool, true, false}
-use Prim.Native.Nat.{ℕ, zero, suc, _+_, _≤_, _<_, zero-le, suc-le-suc}
+use Prim.Native.Nat.{ℕ, zero, _+_, _≤_, _<_}
 use native.Mathlib.Nat.{add-zero}
 use native.Mathlib.Omega.{arith}
 use mathlib.Core.List.{List, [], _∷_}
@@ -10,7 +10,8 @@ use lib.Seq.{getD-drop}
 use lib.Dec.{T, leb, ltb, ltb→lt, lit≤}
 use borrow.Author.Tests.{le-leb, lt-leb}
 use Rattle.text.specs.Pick.{pick, both, within}
-use Rattle.text.specs.Utf8.{longChar, charLen, cont, second3, second4}
+use Rattle.text.specs.Utf8.{longChar, charLen, second3, second4}
+use Rattle.text.proofs.BoolLaws.{both-no}
 
 -- the character at i, by its bytes
 module _ (s : List ℕ) (i : ℕ) where
@@ -27,10 +28,6 @@ module _ (s : List ℕ) (i : ℕ) where
 pub pick-le : (t : Bool) (m a b : ℕ) → a ≤ m → b ≤ m → pick t a b ≤ m
 pick-le true m a b p q = p
 pick-le false m a b p q = q
-
-pub both-no : (t : Bool) → both t false ≡ false
-both-no true = refl
-both-no false = refl
 
 low : (t : Bool) (x y u : ℕ) → T (ltb 0 x) → T (ltb 0 y) → within 0 (pick t x y) u ≡ false
 low true x y u p q = simp (lt-leb x 0 (ltb→lt 0 x p))

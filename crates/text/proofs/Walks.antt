@@ -6,7 +6,7 @@ use native.Mathlib.Numerals.{sub-one}
 use native.Mathlib.Omega.{arith}
 use mathlib.Core.List.{List, [], _∷_}
 use lib.ListN.{length, drop, length-drop, drop-of-length-le}
-use lib.Seq.{drop-drop, drop-length}
+use lib.Seq.{drop-drop}
 use Rattle.text.specs.Walk.{onward, walk, lead, ends}
 
 module _ (h : List ℕ → ℕ) where

@@ -2,7 +2,7 @@
 ghost use mathlib.Core.Path.{_≡_};
 ghost use Prim.Native.Nat.{_≤_};
 ghost use lib.ListN.{length, getD};
-ghost use Rattle.text.specs.Pick.{pick, both, either, within};
+ghost use Rattle.text.specs.Pick.{both, either, within};
 ghost use Rattle.text.specs.Walk.{ends};
 ghost use Rattle.text.specs.Find.{other};
 

@@ -1,8 +1,8 @@
 // White space (Unicode's White_Space), and texts trimmed of it.
 ghost use mathlib.Core.Path.{_≡_};
 ghost use mathlib.Core.List.{reverse};
-ghost use Prim.Native.Nat.{ℕ, _+_, _≤_, _<_};
-ghost use lib.ListN.{length, getD, take, drop};
+ghost use Prim.Native.Nat.{_+_, _≤_, _<_};
+ghost use lib.ListN.{length, getD, drop};
 ghost use Rattle.text.specs.Pick.{within};
 ghost use Rattle.text.specs.Space.{space1, space2, space80, space3, spaceLen, spaceBack, width, trimStart, trimEnd, trimmed, blank};
 use super::all;

@@ -1,9 +1,8 @@
 // UTF-8, as Unicode's table 3-7 has it.
 ghost use mathlib.Core.Path.{_≡_};
-ghost use Prim.Native.Nat.{ℕ, _+_, _≤_, _<_};
-ghost use lib.ListN.{length, getD, drop};
+ghost use Prim.Native.Nat.{_+_, _≤_, _<_};
+ghost use lib.ListN.{length, drop};
 ghost use Rattle.text.specs.Pick.{pick};
-ghost use Rattle.text.specs.Walk.{ends};
 ghost use Rattle.text.specs.Utf8.{longChar, charLen, validUpTo, second3, second4, utf8};
 ghost use Rattle.text.specs.Blocks.{Passed, UpTo};
 use super::all;

@@ -9,7 +9,7 @@ use native.Mathlib.Omega.{arith}
 use lib.ListN.{getD}
 use lib.Dec.{eqb, leb, ltb}
 use borrow.Author.Tests.{eqb-true, leb-true, le-leb, lt-leb, not-true, not-false, lt-ltb, le-ltb}
-use Rattle.text.specs.Pick.{pick, both, within}
+use Rattle.text.specs.Pick.{pick, both}
 use Rattle.text.proofs.BoolLaws.{both-left, both-right}
 use Rattle.times.specs.Calendar.{leap, monthDays, daysBeforeYear, daysBeforeMonth, isDay, dayNumber}
 use Rattle.times.specs.Moments.{isClock}

@@ -1,9 +1,9 @@
 -- Moments rise strictly with date and time, so two different ones never share a number. Assumes nothing.
-use mathlib.Core.Path.{_≡_, refl, sym, ap, _∙_}
+use mathlib.Core.Path.{_≡_, refl, sym, ap}
 use mathlib.Core.Bool.{Bool, true, false}
 use mathlib.Core.Logic.{_⊎_, inl, inr, ⊎-elim}
 use Prim.Native.Nat.{ℕ, zero, suc, _+_, _-_, _*_, _/_, _%_, _≤_, _<_}
-use native.Mathlib.Nat.{not-suc-le-zero, le-of-suc-le-suc, eq-or-lt-of-le}
+use native.Mathlib.Nat.{le-of-suc-le-suc, eq-or-lt-of-le}
 use native.Mathlib.Omega.{arith}
 use lib.Dec.{leb, ltb}
 use borrow.Author.Tests.{leb-true, ltb-true, ltb-false}
@@ -11,7 +11,6 @@ use Rattle.text.specs.Pick.{pick, both, within}
 use Rattle.text.proofs.BoolLaws.{both-left, both-right}
 use Rattle.times.specs.Calendar.{leap, yearDays, monthDays, daysBeforeYear, daysBeforeMonth, isDay, dayNumber}
 use Rattle.times.specs.Moments.{isClock, secondsOf, momentAt}
-use Rattle.times.specs.declared.Moment.{Moment}
 use Rattle.times.specs.declared.Moment.the-variants.{At, Never}
 
 -- ---- more months and more years have no fewer days

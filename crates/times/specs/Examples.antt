@@ -1,9 +1,7 @@
 -- Worked examples.
 use mathlib.Core.Path.{_≡_, refl}
 use mathlib.Core.Bool.{true, false}
-use mathlib.Core.List.{[], _∷_}
-use Prim.Native.Nat.{_+_, _*_}
-use Rattle.times.specs.Calendar.{leap, yearDays, monthDays, daysBeforeYear, daysBeforeMonth, isDay, dayNumber}
+use Rattle.times.specs.Calendar.{leap, monthDays, daysBeforeYear, daysBeforeMonth, isDay, dayNumber}
 use Rattle.times.specs.Moments.{isClock, secondsOf, momentAt}
 use lib.IntN.{pos, negsuc}
 use Rattle.times.specs.Window.{apart, reaches, isWithin}

@@ -1,7 +1,6 @@
 // The moment that a date and a time of day name, in seconds: what tells whether two contacts are near each other.
 ghost use mathlib.Core.Path.{_≡_};
 ghost use Prim.Native.Nat.{_+_, _*_, _≤_, _<_};
-ghost use lib.ListN.{length};
 ghost use mathlib.Core.Bool.{true};
 ghost use Rattle.times.specs.Calendar.{leap, monthDays, daysBeforeYear, daysBeforeMonth, isDay, dayNumber};
 ghost use Rattle.times.specs.Moments.{dateOf, clockOf, isClock, momentAt, momentBy, momentOf, secondsOf, hundredfold};

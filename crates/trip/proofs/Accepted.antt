@@ -1,15 +1,15 @@
 -- Rows that the writer takes are records that can be written and whose names rise. Assumes nothing.
 use mathlib.Core.Path.{_≡_, refl, sym, ap, _∙_}
 use mathlib.Core.Bool.{Bool, true, false, not}
-use mathlib.Core.List.{List, [], _∷_, _++_, map}
-use Prim.Native.Nat.{ℕ, zero, suc, _+_, _-_, _^_, _≤_, _<_}
+use mathlib.Core.List.{List, [], _∷_, map}
+use Prim.Native.Nat.{ℕ, _+_, _-_, _^_, _≤_, _<_}
 use native.Mathlib.Omega.{arith}
 use lib.ListN.{length, getD, take, drop, length-map, length-append, length-take, length-drop}
 use lib.Seq.{take-length}
 use lib.Dec.{eqb}
 use borrow.Author.Tests.{eqb-true, eqb-false, ne-eqb}
 use Rattle.text.specs.Pick.{both}
-use Rattle.text.specs.Walk.{ends, lead}
+use Rattle.text.specs.Walk.{ends}
 use Rattle.text.specs.Find.{other}
 use Rattle.text.specs.Utf8.{validUpTo, utf8, Utf8}
 use Rattle.text.specs.Space.{trimStart, trimEnd, trimmed}
@@ -28,10 +28,10 @@ use Rattle.adif.proofs.Cuts.{Split, none, found, split, front-found}
 use Rattle.rowcheck.specs.Check.{Row, recordIn, nameIn, valueIn, sound, lacks, isField, writable, counted, verdict, checkFrom, checkOf}
 use Rattle.refusals.specs.declared.Verdict.the-variants.{Accepted}
 use Rattle.rowcheck.proofs.FineLaws.{first-fine, rest-fine, is-sound, is-writable, few-names, few-records, higher, next-number, from-one, counted-on, counted-new}
-use Rattle.writer.specs.Rows.{rowField, endsBefore, joined, grouped, recordsOf}
-use Rattle.trip.specs.File.{Good, AllGood, Writable, AllWritable}
+use Rattle.writer.specs.Rows.{rowField, endsBefore, joined, grouped}
+use Rattle.trip.specs.File.{Good, AllGood, Writable}
 use Rattle.trip.proofs.Raised.{good-raised, kind-raised, without-raised}
-use Rattle.trip.proofs.Grouped.{closely, goes-on}
+use Rattle.trip.proofs.Grouped.{goes-on}
 use Rattle.trip.proofs.Means.{named}
 
 -- ---- a name that can be written

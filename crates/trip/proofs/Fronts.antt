@@ -23,13 +23,13 @@ use Rattle.decimal.specs.Digits.{digits, decimal}
 use Rattle.tags.specs.Tags.{colon, gt, kindOf}
 use Rattle.adif.specs.Grammar.{Field}
 use Rattle.adif.specs.Limits.{Before, Ascending}
-use Rattle.fields.specs.Written.{fieldText, fieldsText, recordText, headerText}
+use Rattle.fields.specs.Written.{fieldText, fieldsText, recordText}
 use Rattle.fields.specs.Parts.{fieldAs}
 use Rattle.rowcheck.specs.Check.{lacks, writable}
 use Rattle.headers.specs.Headers.{adifVersion, programId, programVersion, createdTimestamp, rigflow, journalHeader, journalFields, exportFields, exportHeader}
 use Rattle.headers.specs.Answer.{allUtf8}
 use Rattle.station.specs.Station.{myCounty, myCqZone, myGridsquare, myItuZone, myName, myState, operator, stationCallsign, given, stationFields, all7}
-use Rattle.trip.specs.File.{Good, AllGood, Front, header, frontText, Fit}
+use Rattle.trip.specs.File.{Good, AllGood, header, frontText, Fit}
 use Rattle.trip.proofs.Raised.{good-raised, kind-raised, without-raised}
 use Rattle.trip.proofs.Accepted.{name-trim, name-colon, name-gt, name-kind, utf8-is}
 use Rattle.trip.proofs.Means.{named}

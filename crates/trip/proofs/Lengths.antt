@@ -1,5 +1,5 @@
 -- A length in decimal has no white space at its ends, no colon, no ">", and is ASCII; so a tag's length reads back. Assumes nothing.
-use mathlib.Core.Path.{_≡_, refl, sym, ap, _∙_}
+use mathlib.Core.Path.{_≡_, refl}
 use mathlib.Core.Bool.{false}
 use mathlib.Core.List.{List, [], _∷_, reverse, reverseAux}
 use Prim.Native.Nat.{ℕ, _^_, _≤_, _<_}
@@ -11,8 +11,8 @@ use borrow.Author.Tests.{ne-eqb, le-leb, lt-leb}
 use Rattle.text.specs.Walk.{lead}
 use Rattle.text.specs.Space.{space1, space2, space3, space80, spaceLen, spaceBack, width, trimStart, trimEnd, trimmed}
 use Rattle.text.proofs.Walks.{stops}
-use Rattle.text.proofs.Utf8Laws.{both-no}
 use Rattle.text.proofs.AppendLaws.{Ascii}
+use Rattle.text.proofs.BoolLaws.{both-no}
 use Rattle.decimal.specs.Decimal.{unsignedOf}
 use Rattle.decimal.specs.Digits.{decimal}
 use Rattle.decimal.specs.declared.Unsigned.the-variants.{Is}

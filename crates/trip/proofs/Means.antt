@@ -1,6 +1,6 @@
 -- The items of records mean those records, each gathered by its names; and a record whose names rise is gathered as it is. Assumes
 -- nothing.
-use mathlib.Core.Path.{_≡_, refl, sym, ap, _∙_}
+use mathlib.Core.Path.{_≡_, refl, ap, _∙_}
 use mathlib.Core.List.{List, [], _∷_, _++_, append-nil}
 use Prim.Native.Nat.{ℕ, zero, suc, _+_, _≤_, _<_}
 use native.Mathlib.Nat.{not-suc-le-zero}
@@ -12,9 +12,9 @@ use Rattle.letters.specs.Order.{order}
 use Rattle.letters.specs.declared.Order.{Order}
 use Rattle.letters.specs.declared.Order.the-variants.{Less, Equal, Greater}
 use Rattle.letters.proofs.OrderLaws.{order-trans, order-flip}
-use Rattle.adif.specs.Records.{Item, eoh, eor, field, records, on, no, then, total, close, finish, placed, put, act, Ending, whole, meaning}
+use Rattle.adif.specs.Records.{Item, eoh, eor, field, records, on, no, total, close, finish, placed, put, Ending, whole, meaning}
 use Rattle.adif.specs.Grammar.{Field, Why, plain, Items}
-use Rattle.adif.specs.Limits.{Before, Ascending}
+use Rattle.adif.specs.Limits.{Ascending}
 use Rattle.adif.proofs.Plainly.{total-append}
 use Rattle.trip.specs.File.{Writable, Front, bare, header, Fit, Records, AllWritable, gathered, readAs}
 use Rattle.trip.proofs.Says.{items, allItems, frontItems}

@@ -1,8 +1,8 @@
 -- The round trip of the code: from the writer's promise, and a reading that is what the reader's promise says. Assumes nothing.
 use mathlib.Core.Path.{_≡_, refl, sym, ap, _∙_}
-use mathlib.Core.Bool.{Bool, true, false}
-use mathlib.Core.List.{List, [], _∷_, _++_}
-use Prim.Native.Nat.{ℕ, zero, suc, _+_, _/_, _^_, _≤_, _<_}
+use mathlib.Core.Bool.{true}
+use mathlib.Core.List.{List, _++_}
+use Prim.Native.Nat.{ℕ, zero, _+_, _/_, _^_, _≤_, _<_}
 use native.Mathlib.Nat.{zero-add}
 use native.Mathlib.Omega.{arith}
 use lib.ListN.{length, take, drop}
@@ -12,7 +12,7 @@ use borrow.Author.Tests.{leb-true}
 use Rattle.text.specs.Pick.{pick}
 use Rattle.adif.specs.Records.{records, total}
 use Rattle.adif.specs.Reading.{RowsRead, readText}
-use Rattle.refusals.specs.Written.{fitted, outputBy}
+use Rattle.refusals.specs.Written.{fitted}
 use Rattle.refusals.specs.declared.Refusal.the-variants.{TooLong, BadRow}
 use Rattle.refusals.specs.declared.Verdict.the-variants.{Accepted}
 use Rattle.refusals.specs.declared.Written.{Written}

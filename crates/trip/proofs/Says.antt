@@ -1,5 +1,5 @@
 -- A text of records says, by the grammar, their fields one after the other. Assumes nothing.
-use mathlib.Core.Path.{_≡_, refl, sym, ap, _∙_}
+use mathlib.Core.Path.{_≡_, refl, ap}
 use mathlib.Core.Bool.{true}
 use mathlib.Core.List.{List, [], _∷_, _++_, append-assoc}
 use Prim.Native.Nat.{ℕ}
@@ -13,11 +13,11 @@ use Rattle.letters.specs.Capitals.{raised, capitals}
 use Rattle.letters.specs.Same.{sameRaised}
 use Rattle.decimal.specs.Digits.{decimal}
 use Rattle.tags.specs.Tags.{lt, gt, colon, kindOf}
-use Rattle.tags.specs.declared.Kind.the-variants.{EndOfHeader, EndOfRecord, FieldName}
+use Rattle.tags.specs.declared.Kind.the-variants.{EndOfHeader, EndOfRecord}
 use Rattle.adif.specs.Records.{Item, eoh, eor, field, Ending, whole}
-use Rattle.adif.specs.Grammar.{Field, Why, Items, Without, Cut, all, Tagged, Sized, Says, over, eoh-tag, eor-tag, field-tag}
+use Rattle.adif.specs.Grammar.{Field, Why, Items, Without, all, Tagged, Sized, Says, over, eoh-tag, eor-tag, field-tag}
 use Rattle.fields.specs.Written.{fieldText, recordText, headerText}
-use Rattle.trip.specs.File.{Good, AllGood, Writable, Comment, Front, bare, header, frontText, Fit, Records, recordsText, fileText, AllWritable}
+use Rattle.trip.specs.File.{Good, AllGood, Writable, Comment, Front, bare, header, Fit, Records, recordsText, fileText, AllWritable}
 use Rattle.trip.proofs.Lengths.{decimal-read, decimal-colon, decimal-gt}
 
 pub without-append : (b : ℕ) (xs ys : List ℕ) → Without b xs → Without b ys → Without b (xs ++ ys)

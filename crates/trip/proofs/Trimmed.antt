@@ -1,7 +1,7 @@
 -- A UTF-8 text that is trimmed is UTF-8: white space is whole characters. Assumes nothing.
-use mathlib.Core.Path.{_≡_, refl, sym, ap, _∙_}
+use mathlib.Core.Path.{_≡_, refl, sym}
 use mathlib.Core.Bool.{Bool, true, false}
-use mathlib.Core.List.{List, [], _∷_, _++_, reverse}
+use mathlib.Core.List.{List, [], _∷_, reverse}
 use Prim.Native.Nat.{ℕ, zero, suc, _+_, _-_, _≤_, _<_}
 use native.Mathlib.Nat.{not-suc-le-zero, sub-zero}
 use native.Mathlib.Omega.{arith}
@@ -9,7 +9,7 @@ use lib.ListN.{length, getD, take, drop, length-take, length-drop, length-revers
 use lib.Seq.{getD-drop, drop-drop}
 use lib.Dec.{leb, eqb}
 use borrow.Author.Tests.{le-leb, lt-leb, leb-true, leb-false, eqb-true}
-use Rattle.text.specs.Pick.{pick, both, either, within}
+use Rattle.text.specs.Pick.{both, either, within}
 use Rattle.text.specs.Walk.{lead}
 use Rattle.text.specs.Utf8.{cont, second3, longChar, charLen, validUpTo, Utf8, Between}
 use Rattle.text.specs.Space.{space1, space2, space80, space3, width, spaceLen, spaceBack, trimStart, trimEnd, trimmed}

@@ -3,7 +3,6 @@
 use mathlib.Core.Path.{_≡_, refl, sym, ap, _∙_}
 use mathlib.Core.List.{List, [], _∷_, _++_, map}
 use Prim.Native.Nat.{ℕ, suc, _+_, _^_, _≤_, _<_}
-use native.Mathlib.Omega.{arith}
 use lib.ListN.{length, length-map}
 use Rattle.text.specs.Walk.{lead}
 use Rattle.text.specs.Utf8.{validUpTo}
@@ -14,7 +13,7 @@ use Rattle.adif.specs.Reading.{readText}
 use Rattle.rowcheck.specs.Check.{Row, checkOf}
 use Rattle.refusals.specs.declared.Verdict.the-variants.{Accepted}
 use Rattle.writer.specs.Rows.{rowField, rowsText, grouped, recordsOf}
-use Rattle.trip.specs.File.{Comment, Front, bare, header, frontText, Fit, Records, recordsText, fileText, Writable, AllWritable, gathered, readAs}
+use Rattle.trip.specs.File.{Comment, Front, bare, frontText, Fit, Records, fileText, Writable, AllWritable, gathered, readAs}
 use Rattle.trip.proofs.Says.{file-says, frontItems, allItems}
 use Rattle.trip.proofs.Means.{named, gathered-is}
 use Rattle.trip.proofs.Back.{told, read-back, one-list}

@@ -4,9 +4,7 @@ use mathlib.Core.Path.{_≡_, refl}
 use mathlib.Core.Bool.{Bool, true, false}
 use mathlib.Core.List.{List, []}
 use Prim.Native.Nat.{ℕ}
-use lib.Dec.{eqb}
-use lib.ListN.{length}
-use Rattle.text.specs.Pick.{pick, both, either, within}
+use Rattle.text.specs.Pick.{pick}
 use Rattle.text.specs.Ascii.{ascii}
 use Rattle.text.specs.Walk.{lead}
 use Rattle.text.specs.Space.{space1, space2, space3, space80, spaceLen, spaceBack, width, trimStart, trimEnd, trimmed, blank}

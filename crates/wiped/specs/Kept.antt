@@ -1,6 +1,6 @@
 -- A record's row of which fate and reason are kept, and the rest is zero.
 use Prim.Native.Nat.{ℕ}
-use mathlib.Core.List.{List, [], _∷_, map}
+use mathlib.Core.List.{List, _∷_, map}
 use lib.ListN.{getD, take, replicate}
 use Rattle.entries.specs.Row.{Row}
 

@@ -2,21 +2,21 @@
 use mathlib.Core.Path.{_≡_, refl, sym, ap, _∙_}
 use mathlib.Core.Bool.{Bool, true, false, not}
 use mathlib.Core.List.{List, [], _∷_, _++_}
-use Prim.Native.Nat.{ℕ, zero, suc, _+_, _-_, _*_, _≤_, _<_}
+use Prim.Native.Nat.{ℕ, zero, _+_, _-_, _≤_, _<_}
 use native.Mathlib.Nat.{sub-zero}
 use native.Mathlib.Omega.{arith}
-use lib.ListN.{length, getD, length-append}
+use lib.ListN.{length, length-append}
 use borrow.Author.Tests.{not-true}
 use Rattle.fields.specs.Written.{fieldText}
 use Rattle.refusals.specs.declared.Verdict.{Verdict}
 use Rattle.refusals.specs.declared.Verdict.the-variants.{Accepted, Refused}
 use Rattle.refusals.specs.declared.Written.{Written}
-use Rattle.refusals.specs.declared.Written.the-variants.{Bytes, Unwritten}
+use Rattle.refusals.specs.declared.Written.the-variants.{Bytes}
 use Rattle.rowcheck.specs.Check.{Row, recordIn, counted, verdict, isFine, andThen, checkFrom, checkOf}
 use Rattle.rowcheck.proofs.FineLaws.{few-names, few-records, Tally, tally-on, tally-few, fine}
 use Rattle.writer.specs.Rows.{rowAt, rowsFrom, rowsOf, rowField, endsBefore, endText, rowsText}
 use Rattle.writer.specs.Answer.{sizedBy, checkedOf}
-use Rattle.writer.proofs.RowLaws.{rows-cons, left, left-all, left-none, left-cons}
+use Rattle.writer.proofs.RowLaws.{rows-cons, left, left-all, left-cons}
 
 -- the rows from i on, after row p, the c-th of record n: they decide the verdict, and what they take is still to be counted
 unfoldable pub Checking : List ℕ → List ℕ → ℕ → ℕ → ℕ → Row → ℕ → ℕ → Type 0

@@ -2,7 +2,7 @@
 ghost use mathlib.Core.Path.{_≡_};
 ghost use mathlib.Core.List.{_++_};
 ghost use Prim.Native.Nat.{_+_, _*_, _-_, _≤_, _<_};
-ghost use lib.ListN.{length, getD};
+ghost use lib.ListN.{length};
 ghost use Rattle.rowcheck.specs.Check.{recordIn};
 ghost use Rattle.fields.specs.Written.{fieldText};
 ghost use Rattle.output.specs.Put.{Put, Room};

@@ -1,4 +1,3 @@
-use native.Mathlib.Omega.{arith}
 use lib.Seq.{length-take-le}
 use borrow.Author.Needs.{needs}
 use Rattle.answers_text.proofs.same_raised.Statement.{statement}

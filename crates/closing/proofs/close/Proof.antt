@@ -1,7 +1,6 @@
 use mir.Syntax.{w64}
 use mir.ValLaws.{toZ-ofZ}
-use mathlib.Core.Path.{refl}
-use Rattle.closing.proofs.CloseLaws.{close-full, close-counted, kept-room}
+use Rattle.closing.proofs.CloseLaws.{close-full, close-counted}
 use borrow.Author.Needs.{needs}
 use Rattle.closing.proofs.close.Statement.{statement}
 use Rattle.closing.proofs.close.Tie as tie

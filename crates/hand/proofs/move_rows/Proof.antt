@@ -2,9 +2,9 @@ use borrow.Author.Needs.{needs}
 use lib.Seq.{sets}
 use Rattle.hand.specs.Rows.{laid}
 use Rattle.hand.proofs.TableLaws.{stored-more}
-use Prim.Native.Nat.{ℕ, _≤_, _<_, _-_, _+_, _*_}
-use mathlib.Core.Path.{_≡_, refl, sym, ap, _∙_}
-use lib.ListN.{length, take, drop, getD, set, length-set}
+use Prim.Native.Nat.{_≤_, _-_, _+_, _*_}
+use mathlib.Core.Path.{_≡_, _∙_}
+use lib.ListN.{length, take, set}
 use native.Mathlib.Omega.{arith}
 use Rattle.hand.proofs.move_rows.Statement.{statement}
 use Rattle.hand.proofs.move_rows.Tie as tie

@@ -1,4 +1,4 @@
-use Prim.Native.Nat.{ℕ, suc, _+_}
+use Prim.Native.Nat.{suc, _+_}
 use mathlib.Core.Path.{_≡_}
 use lib.ListN.{length-set}
 use native.Mathlib.Omega.{arith}

@@ -1,6 +1,6 @@
 use borrow.Author.Needs.{needs}
 use Prim.Native.Nat.{_≤_, _-_}
-use mathlib.Core.Path.{_≡_, sym, _∙_, refl}
+use mathlib.Core.Path.{_≡_, _∙_}
 use lib.ListN.{length, take, length-set}
 use native.Mathlib.Omega.{arith}
 use Rattle.hand.specs.Rows.{putIn}

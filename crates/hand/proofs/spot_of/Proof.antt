@@ -2,7 +2,7 @@ use Rattle.hand.proofs.InsertLaws.{Passed, none-passed, found-later, fo
 use borrow.Author.Needs.{needs}
 use mathlib.Core.Path.{_≡_}
 use Prim.Native.Nat.{_≤_, _-_}
-use lib.ListN.{length, getD, take}
+use lib.ListN.{getD, take}
 use Rattle.letters.specs.Capitals.{raised, capitals}
 use Rattle.hand.proofs.spot_of.Statement.{statement}
 use Rattle.hand.proofs.spot_of.Tie as tie

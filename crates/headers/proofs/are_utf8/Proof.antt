@@ -1,5 +1,3 @@
-use native.Mathlib.Omega.{arith}
-use mathlib.Core.Path.{refl}
 use Rattle.headers.proofs.AnswerLaws.{are-utf8}
 use borrow.Author.Needs.{needs}
 use Rattle.headers.proofs.are_utf8.Statement.{statement}

@@ -1,5 +1,4 @@
 use native.Mathlib.Omega.{arith}
-use mathlib.Core.Path.{refl}
 use Rattle.headers.proofs.SizeLaws.{cap-small, cap-large}
 use borrow.Author.Needs.{needs}
 use Rattle.headers.proofs.cap.Statement.{statement}

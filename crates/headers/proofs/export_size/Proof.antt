@@ -1,5 +1,3 @@
-use native.Mathlib.Omega.{arith}
-use mathlib.Core.Path.{refl}
 use Rattle.headers.proofs.SizeLaws.{export-size}
 use borrow.Author.Needs.{needs}
 use Rattle.headers.proofs.export_size.Statement.{statement}

@@ -1,5 +1,3 @@
-use native.Mathlib.Omega.{arith}
-use mathlib.Core.Path.{refl}
 use Rattle.output.proofs.PutLaws.{room-first, room-next, put-then}
 use borrow.Author.Needs.{needs}
 use Rattle.headers.proofs.put_created.Statement.{statement}

@@ -1,5 +1,3 @@
-use native.Mathlib.Omega.{arith}
-use mathlib.Core.Path.{refl}
 use Rattle.headers.proofs.TextLaws.{export-first, export-second, export-put}
 use borrow.Author.Needs.{needs}
 use Rattle.headers.proofs.put_export.Statement.{statement}

@@ -1,5 +1,3 @@
-use native.Mathlib.Omega.{arith}
-use mathlib.Core.Path.{refl}
 use Rattle.output.proofs.PutLaws.{room-first, room-second, room-third, put-three}
 use borrow.Author.Needs.{needs}
 use Rattle.headers.proofs.put_versions.Statement.{statement}

@@ -1,5 +1,4 @@
 use native.Mathlib.Omega.{arith}
-use mathlib.Core.Path.{refl}
 use Rattle.headers.proofs.SizeLaws.{with-long, with-size}
 use borrow.Author.Needs.{needs}
 use Rattle.headers.proofs.with_field.Statement.{statement}

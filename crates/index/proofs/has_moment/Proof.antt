@@ -1,4 +1,3 @@
-use mathlib.Core.Path.{refl}
 use Rattle.index.specs.Rows.{hasMoment}
 use borrow.Author.Needs.{needs}
 use Rattle.index.proofs.has_moment.Statement.{statement}

@@ -1,4 +1,3 @@
-use mathlib.Core.Path.{refl}
 use Rattle.index.specs.Rows.{secondsIn}
 use borrow.Author.Needs.{needs}
 use Rattle.index.proofs.seconds_in.Statement.{statement}

@@ -1,4 +1,3 @@
-use native.Mathlib.Omega.{arith}
 use Rattle.listwriter.proofs.PartLaws.{counted-first, counted-next, counted-put}
 use borrow.Author.Needs.{needs}
 use Rattle.listwriter.proofs.put_counted.Statement.{statement}

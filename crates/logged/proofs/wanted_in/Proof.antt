@@ -1,9 +1,8 @@
-use mathlib.Core.Path.{_≡_, refl}
 use borrow.Author.Needs.{needs}
 use Rattle.logged.proofs.wanted_in.Statement.{statement}
 use Rattle.logged.proofs.wanted_in.Tie as tie
 use Rattle.logged.proofs.wanted_in.Reads as reads
-use Rattle.infile.proofs.key_in.Reads as key-in-reads
+use Rattle.entries.proofs.key_in.Reads as key-in-reads
 use Rattle.infile.proofs.moment_in.Reads as moment-in-reads
 
 key-in-requires : tie.Need-key-in-requires

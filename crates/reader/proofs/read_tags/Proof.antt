@@ -1,10 +1,9 @@
 use mathlib.Core.Path.{_∙_}
 use borrow.Author.Needs.{needs}
-use Prim.Native.Nat.{ℕ, _≤_, _<_, _-_, _+_, _*_}
-use mathlib.Core.Path.{_≡_, refl}
+use Prim.Native.Nat.{_≤_, _-_, _*_}
+use mathlib.Core.Path.{_≡_}
 use lib.ListN.{length}
 use Rattle.reader.proofs.GoingLaws.{Going, going-start, going-on, going-held, going-fits, going-less, over-answer, over-shown}
-use native.Mathlib.Omega.{arith}
 use Rattle.reader.proofs.read_tags.Statement.{statement}
 use Rattle.reader.proofs.read_tags.Tie as tie
 

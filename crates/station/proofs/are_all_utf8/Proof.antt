@@ -1,5 +1,3 @@
-use native.Mathlib.Omega.{arith}
-use mathlib.Core.Path.{refl}
 use Rattle.station.proofs.AnswerLaws.{are-all-utf8}
 use borrow.Author.Needs.{needs}
 use Rattle.station.proofs.are_all_utf8.Statement.{statement}

@@ -1,5 +1,3 @@
-use native.Mathlib.Omega.{arith}
-use mathlib.Core.Path.{refl}
 use Rattle.headers.proofs.SizeLaws.{two-sizes}
 use borrow.Author.Needs.{needs}
 use Rattle.station.proofs.call_size.Statement.{statement}

@@ -1,5 +1,4 @@
 use native.Mathlib.Omega.{arith}
-use mathlib.Core.Path.{refl}
 use Rattle.headers.proofs.SizeLaws.{first-sizes}
 use borrow.Author.Needs.{needs}
 use Rattle.station.proofs.place_size.Statement.{statement}

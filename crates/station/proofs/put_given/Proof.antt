@@ -1,5 +1,3 @@
-use native.Mathlib.Omega.{arith}
-use mathlib.Core.Path.{refl}
 use Rattle.station.proofs.TextLaws.{blank-put, given-room, given-put}
 use borrow.Author.Needs.{needs}
 use Rattle.station.proofs.put_given.Statement.{statement}

@@ -1,5 +1,3 @@
-use native.Mathlib.Omega.{arith}
-use mathlib.Core.Path.{refl}
 use Rattle.station.proofs.TextLaws.{station-first, station-second, station-third, station-put}
 use borrow.Author.Needs.{needs}
 use Rattle.station.proofs.put_station.Statement.{statement}

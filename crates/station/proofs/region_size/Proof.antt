@@ -1,5 +1,4 @@
 use native.Mathlib.Omega.{arith}
-use mathlib.Core.Path.{refl}
 use Rattle.headers.proofs.SizeLaws.{three-sizes}
 use borrow.Author.Needs.{needs}
 use Rattle.station.proofs.region_size.Statement.{statement}

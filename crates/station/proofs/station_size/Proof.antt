@@ -1,5 +1,3 @@
-use native.Mathlib.Omega.{arith}
-use mathlib.Core.Path.{refl}
 use Rattle.station.proofs.SizeLaws.{station-size}
 use Rattle.station.proofs.TextLaws.{station-text}
 use borrow.Author.Needs.{needs}

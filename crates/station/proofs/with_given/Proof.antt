@@ -1,5 +1,4 @@
 use native.Mathlib.Omega.{arith}
-use mathlib.Core.Path.{refl}
 use Rattle.station.proofs.SizeLaws.{given-none, given-some}
 use borrow.Author.Needs.{needs}
 use Rattle.station.proofs.with_given.Statement.{statement}

@@ -1,7 +1,5 @@
 use Rattle.tables.proofs.EntryLaws.{entry-here}
 use Rattle.tables.proofs.EntryLaws.{no-entry}
-use mathlib.Core.Path.{refl}
-use Rattle.tables.specs.Place.{nameAt}
 use borrow.Author.Needs.{needs}
 use Rattle.tables.proofs.name_in.Statement.{statement}
 use Rattle.tables.proofs.name_in.Tie as tie

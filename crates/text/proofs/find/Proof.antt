@@ -1,11 +1,10 @@
 use mathlib.Core.Path.{_≡_, refl}
 use Prim.Native.Nat.{_≤_, _-_}
-use native.Mathlib.Nat.{zero-add}
 use lib.ListN.{length}
 use borrow.Author.Needs.{needs}
 use Rattle.text.specs.Walk.{ends}
 use Rattle.text.specs.Find.{other}
-use Rattle.text.proofs.Walks.{here, on, out}
+use Rattle.text.proofs.Walks.{here, out}
 use Rattle.text.proofs.SpaceLaws.{is-here, goes-by}
 use Rattle.text.proofs.find.Statement.{statement}
 use Rattle.text.proofs.find.Tie as tie

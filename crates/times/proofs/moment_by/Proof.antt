@@ -1,5 +1,5 @@
 use native.Mathlib.Omega.{arith}
-use Rattle.times.proofs.MomentLaws.{below-is, date-missing, clock-missing, both-there}
+use Rattle.times.proofs.MomentLaws.{below-is, both-there}
 use borrow.Author.Needs.{needs}
 use Rattle.times.proofs.moment_by.Statement.{statement}
 use Rattle.times.proofs.moment_by.Tie as tie

@@ -1,6 +1,6 @@
 use borrow.Author.Needs.{needs}
 use native.Mathlib.Omega.{arith}
-use Prim.Native.Nat.{_≤_, _-_, _*_}
+use Prim.Native.Nat.{_≤_, _-_}
 use lib.ListN.{length}
 use Rattle.fields.proofs.FieldLaws.{Left, left-length}
 use Rattle.writer.proofs.RowLaws.{left, whole, rows-start, rows-room, rows-on, rows-end}

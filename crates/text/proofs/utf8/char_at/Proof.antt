@@ -1,4 +1,3 @@
-use mathlib.Core.Path.{refl}
 use Rattle.text.proofs.Utf8Laws.{ascii, longer, char-fits}
 use Rattle.text.proofs.Utf8Laws.{ascii, longer}
 use borrow.Author.Needs.{needs}
