@@ -26,7 +26,8 @@ use Rattle.counted.proofs.AlikeLaws.{no-bit}
 use Rattle.tallies.specs.Tallies.{target, targetOf, cardFor, unmarked, servicesIn}
 use Rattle.tallies.specs.declared.Tally.{Tally}
 use Rattle.tallies.specs.declared.Target.{Target}
-use Rattle.cards.specs.Carded.{hitsIn, cardRow}
+use Rattle.plan.specs.Cards.{cardRow}
+use Rattle.cards.specs.Carded.{hitsIn}
 use Rattle.cards.specs.Steps.{unseen, confirms, answersIn, targetAt, tallyAt, cardsAt, rowsAt}
 use Rattle.cards.proofs.FoldLaws.{newOf, oldOf, lostOf, used-over, already-over, unmatched-over, cards-over}
 use Rattle.cards.proofs.ServiceLaws.{isService, bears-given, services-over}

@@ -1,27 +1,20 @@
 -- What the confirmations of a plan come to: those to record, one row each, how many were known already, and how many match no contact.
--- A row is five numbers: the contact's id, low half first, the service's bit, and where its date stands in the text and how long it is.
 use Prim.Native.Nat.{ℕ, zero, suc}
 use mathlib.Core.Path.{_≡_}
 use mathlib.Core.List.{List, [], _∷_, _++_, map}
 use lib.Dec.{leb}
-use lib.ListN.{length, getD, drop, replicate}
+use lib.ListN.{length, getD, drop}
 use lib.Seq.{sets}
 use Rattle.text.specs.Pick.{pick}
 use Rattle.chain.specs.Chain.{col}
 use Rattle.contacts.specs.Contacts.{Contact}
-use Rattle.index.specs.Rows.{low, high}
 use Rattle.plan.specs.Entry.{Entry}
 use Rattle.plan.specs.Confirmed.{Confirmation, newTo, alreadyTo, unmatchedTo}
+use Rattle.plan.specs.Cards.{cardRow}
 use Rattle.plan.specs.Fates.{fatesIn}
 use Rattle.entries.specs.Row.{Row}
 use Rattle.cards.specs.declared.Carded.{Carded}
 use Rattle.cards.specs.declared.Carded.the-variants.{Full, Counted}
-
-abbrev pub noCard : List ℕ
-noCard = replicate 5 0
-
-abbrev pub cardRow : Confirmation → List ℕ
-cardRow c = low (c .id) ∷ high (c .id) ∷ c .service ∷ c .place ∷ c .len ∷ []
 
 -- the contacts that the first k records found
 unfoldable pub hitsIn : List Row → ℕ → List ℕ

@@ -24,7 +24,8 @@ use Rattle.entries.specs.Row.{Row}
 use Rattle.counted.specs.Counted.{codeIn}
 use Rattle.tallies.specs.Tallies.{target, targetIn, targetOf, bitsOf}
 use Rattle.cards.specs.declared.Carded.the-variants.{Full, Counted}
-use Rattle.cards.specs.Carded.{noCard, hitsIn, cardedAs, cardsAfter}
+use Rattle.plan.specs.Cards.{noCard}
+use Rattle.cards.specs.Carded.{hitsIn, cardedAs, cardsAfter}
 
 abbrev by : ℕ → ℕ → Answer
 by service place = record { present = true; service = service; date = stands place 8 }

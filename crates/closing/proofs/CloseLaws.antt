@@ -14,7 +14,7 @@ use Rattle.chain.specs.Chain.{col}
 use Rattle.indexing.proofs.BuildLaws.{drop-replicate}
 use Rattle.plan.specs.Plan.{Plan}
 use Rattle.entries.specs.Row.{Row, noRow}
-use Rattle.cards.specs.Carded.{cardRow, noCard}
+use Rattle.plan.specs.Cards.{cardRow, noCard}
 use Rattle.cards.specs.declared.Carded.{Carded}
 use Rattle.cards.specs.declared.Carded.the-variants.{Counted, Full}
 use Rattle.wiped.specs.Kept.{keptRow, keptRows}

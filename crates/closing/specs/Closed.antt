@@ -7,7 +7,7 @@ use lib.ListN.{length, replicate}
 use Rattle.reader.specs.Table.{zeros}
 use Rattle.plan.specs.Plan.{Plan}
 use Rattle.entries.specs.Row.{Row, noRow}
-use Rattle.cards.specs.Carded.{cardRow, noCard}
+use Rattle.plan.specs.Cards.{cardRow, noCard}
 use Rattle.cards.specs.declared.Carded.{Carded}
 use Rattle.cards.specs.declared.Carded.the-variants.{Counted, Full}
 use Rattle.wiped.specs.Kept.{fateRow}

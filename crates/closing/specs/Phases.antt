@@ -15,7 +15,7 @@ use Rattle.plan.specs.Plan.{Plan, planned, hitsOf}
 use Rattle.entries.specs.Row.{Row, noRow}
 use Rattle.entries.specs.Filled.{ReadInto, entriesRead, Said, Answered, Bare}
 use Rattle.fates.specs.Fated.{Found}
-use Rattle.cards.specs.Carded.{cardRow}
+use Rattle.plan.specs.Cards.{cardRow}
 use Rattle.cards.specs.declared.Carded.{Carded}
 use Rattle.cards.specs.declared.Carded.the-variants.{Counted, Full}
 

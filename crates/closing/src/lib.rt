@@ -2,7 +2,7 @@
 // tables.
 ghost use mathlib.Core.Path.{_≡_};
 ghost use lib.ListN.{length, replicate};
-ghost use Rattle.cards.specs.Carded.{noCard};
+ghost use Rattle.plan.specs.Cards.{noCard};
 ghost use Rattle.closing.specs.Phases.{planRead, Searched, Recorded};
 ghost use Rattle.closing.specs.Closed.{Closed};
 use cards::Carded;

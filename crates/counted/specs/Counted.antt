@@ -3,7 +3,7 @@
 use Prim.Native.Nat.{ℕ, suc, _%_, _≤_, _<_}
 use mathlib.Core.Path.{_≡_}
 use mathlib.Core.Bool.{Bool}
-use mathlib.Core.List.{List, [], _∷_}
+use mathlib.Core.List.{List, []}
 use lib.ListN.{length, getD, set}
 use lib.Dec.{eqb, ltb}
 use Rattle.text.specs.Pick.{pick, both}
@@ -11,7 +11,7 @@ use Rattle.tables.specs.Place.{bytes}
 use Rattle.chain.specs.Chain.{any, col, Linked}
 use Rattle.dedupe.specs.Views.{keysUnmatched}
 use Rattle.plan.specs.Confirmed.{hasBit}
-use Rattle.entries.specs.Row.{Row, callIn, modeIn, bandIn, keyIn, fileCode}
+use Rattle.entries.specs.Row.{Row, callIn, modeIn, bandIn, keyIn, fileCode, withNumber}
 
 -- two records confirm the same thing: one contact, or, where both are unmatched, one call, band and mode
 unfoldable pub rowsAlike : List ℕ → Row → Row → Bool
@@ -47,18 +47,10 @@ pub record Marked (text : List ℕ) (n k : ℕ) (rows : List Row) : Type 0 where
 
 -- ---- a row with other services and another next, with another head
 abbrev pub withServices : Row → ℕ → ℕ → Row
-withServices r services next =
-    getD r 0 0 ∷ getD r 1 0 ∷ getD r 2 0 ∷ getD r 3 0 ∷ getD r 4 0 ∷ getD r 5 0 ∷ getD r 6 0 ∷ getD r 7 0 ∷ getD r 8 0 ∷ getD r 9 0 ∷ getD r 10 0
-    ∷ getD r 11 0 ∷ getD r 12 0 ∷ getD r 13 0 ∷ getD r 14 0 ∷ getD r 15 0 ∷ getD r 16 0 ∷ getD r 17 0 ∷ getD r 18 0 ∷ getD r 19 0 ∷ getD r 20 0
-    ∷ getD r 21 0 ∷ getD r 22 0 ∷ getD r 23 0
-    ∷ services ∷ getD r 25 0 ∷ next ∷ getD r 27 0 ∷ []
+withServices r services next = withNumber (withNumber r 24 services) 26 next
 
 abbrev pub withHead : Row → ℕ → Row
-withHead r v =
-    getD r 0 0 ∷ getD r 1 0 ∷ getD r 2 0 ∷ getD r 3 0 ∷ getD r 4 0 ∷ getD r 5 0 ∷ getD r 6 0 ∷ getD r 7 0 ∷ getD r 8 0 ∷ getD r 9 0 ∷ getD r 10 0
-    ∷ getD r 11 0 ∷ getD r 12 0 ∷ getD r 13 0 ∷ getD r 14 0 ∷ getD r 15 0 ∷ getD r 16 0 ∷ getD r 17 0 ∷ getD r 18 0 ∷ getD r 19 0 ∷ getD r 20 0
-    ∷ getD r 21 0 ∷ getD r 22 0 ∷ getD r 23 0
-    ∷ getD r 24 0 ∷ v ∷ getD r 26 0 ∷ getD r 27 0 ∷ []
+withHead r v = withNumber r 25 v
 
 abbrev pub serviced : List Row → ℕ → ℕ → ℕ → List Row
 serviced rows k services next = set rows k (withServices (getD rows k []) services next)

@@ -8,6 +8,7 @@ ghost use Rattle.plan.specs.Confirmed.{hasBit};
 ghost use Rattle.counted.specs.Counted.{keysTested, rowsTested, codeIn, seen, Marked, withServices, withHead, marked};
 use entries::key_in;
 use entries::number_in;
+use entries::with_number;
 
 const CONFIRMED: usize = 5;
 
@@ -89,71 +90,13 @@ pub fn is_seen(text: &[u8], rows: &[[u32; 28]], n: usize, k: usize, s: u32) -> b
 fn with_services(r: [u32; 28], services: u32, next: u32) -> [u32; 28]
     ensures { λ x. ⌜ x ≡ withServices r services next ⌝ }
 {
-    [
-        r[0],
-        r[1],
-        r[2],
-        r[3],
-        r[4],
-        r[5],
-        r[6],
-        r[7],
-        r[8],
-        r[9],
-        r[10],
-        r[11],
-        r[12],
-        r[13],
-        r[14],
-        r[15],
-        r[16],
-        r[17],
-        r[18],
-        r[19],
-        r[20],
-        r[21],
-        r[22],
-        r[23],
-        services,
-        r[25],
-        next,
-        r[27],
-    ]
+    with_number(with_number(r, 24, services), 26, next)
 }
 
 fn with_head(r: [u32; 28], v: u32) -> [u32; 28]
     ensures { λ x. ⌜ x ≡ withHead r v ⌝ }
 {
-    [
-        r[0],
-        r[1],
-        r[2],
-        r[3],
-        r[4],
-        r[5],
-        r[6],
-        r[7],
-        r[8],
-        r[9],
-        r[10],
-        r[11],
-        r[12],
-        r[13],
-        r[14],
-        r[15],
-        r[16],
-        r[17],
-        r[18],
-        r[19],
-        r[20],
-        r[21],
-        r[22],
-        r[23],
-        r[24],
-        v,
-        r[26],
-        r[27],
-    ]
+    with_number(r, 25, v)
 }
 
 fn head_in(r: [u32; 28]) -> u32

@@ -1,4 +1,5 @@
 pub mod KeyLaws
+pub mod PartLaws
 pub mod ViewLaws
 pub mod MomentLaws
 pub mod Determined

@@ -3,11 +3,11 @@
 use mathlib.Core.Path.{_≡_, refl, sym, ap, _∙_}
 use mathlib.Core.Bool.{Bool, true, false}
 use mathlib.Core.List.{List, [], _∷_}
-use Prim.Native.Nat.{ℕ, zero, suc, _-_, _≤_}
+use Prim.Native.Nat.{ℕ, _-_, _≤_}
 use native.Mathlib.Omega.{arith}
-use lib.ListN.{length, take, drop, length-map}
-use lib.Dec.{eqb, leb}
-use borrow.Author.Tests.{leb-true, le-leb, lt-leb, ne-eqb}
+use lib.ListN.{length, length-map}
+use lib.Dec.{leb}
+use borrow.Author.Tests.{leb-true, le-leb, lt-leb}
 use Rattle.text.specs.Pick.{both, within}
 use Rattle.text.specs.Space.{space1, space2, space3, space80, spaceLen, spaceBack, width, trimStart, trimEnd, trimmed}
 use Rattle.text.specs.Walk.{lead}
@@ -20,11 +20,12 @@ use Rattle.decimal.specs.declared.Unsigned.the-variants.{Is, Not}
 use Rattle.tables.specs.Table.{entry}
 use Rattle.tables.specs.Bands.{bands, bandNames}
 use Rattle.tables.specs.Modes.{modes, modeNames}
-use Rattle.tables.specs.Place.{place, part, value, orEmpty, bytes}
+use Rattle.tables.specs.Place.{place, part, orEmpty, bytes}
 use Rattle.tables.specs.declared.Place.{Place}
 use Rattle.tables.proofs.Tested.{all}
 use Rattle.times.specs.Moments.{dateOf, clockOf, momentOf}
 use Rattle.times.specs.declared.Moment.{Moment}
+use Rattle.dedupe.proofs.PartLaws.{entry-all, by-part}
 
 -- ---- digits have no case
 raised-small : (d : ℕ) → leb 0x61 d ≡ false → raised d ≡ d
@@ -111,11 +112,6 @@ timeless-empty : timeless [] ≡ true
 unfolding dateOf clockOf digitsOf digitsAfter trimmed trimStart trimEnd lead
 timeless-empty = refl
 
-timeless-entry : (l : List (List ℕ)) → all timeless l ≡ true → (k : ℕ) → timeless (orEmpty (entry l k)) ≡ true
-timeless-entry [] e k = timeless-empty
-timeless-entry (x ∷ xs) e zero = both-left (timeless x) (all timeless xs) e
-timeless-entry (x ∷ xs) e (suc k) = timeless-entry xs (both-right (timeless x) (all timeless xs) e) k
-
 no-date : (x : List ℕ) → timeless x ≡ true → dateOf (trimmed x) ≡ dateOf (trimmed [])
 no-date x e =
     is-not _ (both-left (isNot (dateOf (trimmed x))) (isNot (clockOf (trimmed x))) e)
@@ -129,36 +125,18 @@ no-clock x e =
 -- ---- by the kind of a place
 module _ (text : List ℕ) where
   date-at : (k a n : ℕ) → dateOf (trimmed (bytes text (place k a n))) ≡ dateOf (trimmed (part text (place k a n)))
-  unfolding value part
-  date-at zero a n = refl
-  date-at (suc zero) a n = refl
-  date-at (suc (suc zero)) a n = date-capitals (take n (drop a text))
-  date-at (suc (suc (suc zero))) a n = no-date (orEmpty (entry bandNames a)) (timeless-entry bandNames timeless-bands a)
-  date-at (suc (suc (suc (suc zero)))) a n = no-date (orEmpty (entry modeNames a)) (timeless-entry modeNames timeless-modes a)
-  date-at (suc (suc (suc (suc (suc k))))) a n =
-      rw (
-        ne-eqb (suc (suc (suc (suc (suc k))))) 1 (λ e. omega arith),
-        ne-eqb (suc (suc (suc (suc (suc k))))) 2 (λ e. omega arith),
-        ne-eqb (suc (suc (suc (suc (suc k))))) 3 (λ e. omega arith),
-        ne-eqb (suc (suc (suc (suc (suc k))))) 4 (λ e. omega arith),
-      )
-      refl
+  date-at =
+      by-part (λ (x : List ℕ). dateOf (trimmed x)) date-capitals
+      (λ a. no-date (orEmpty (entry bandNames a)) (entry-all timeless timeless-empty bandNames timeless-bands a))
+      (λ a. no-date (orEmpty (entry modeNames a)) (entry-all timeless timeless-empty modeNames timeless-modes a))
+      text
 
   clock-at : (k a n : ℕ) → clockOf (trimmed (bytes text (place k a n))) ≡ clockOf (trimmed (part text (place k a n)))
-  unfolding value part
-  clock-at zero a n = refl
-  clock-at (suc zero) a n = refl
-  clock-at (suc (suc zero)) a n = clock-capitals (take n (drop a text))
-  clock-at (suc (suc (suc zero))) a n = no-clock (orEmpty (entry bandNames a)) (timeless-entry bandNames timeless-bands a)
-  clock-at (suc (suc (suc (suc zero)))) a n = no-clock (orEmpty (entry modeNames a)) (timeless-entry modeNames timeless-modes a)
-  clock-at (suc (suc (suc (suc (suc k))))) a n =
-      rw (
-        ne-eqb (suc (suc (suc (suc (suc k))))) 1 (λ e. omega arith),
-        ne-eqb (suc (suc (suc (suc (suc k))))) 2 (λ e. omega arith),
-        ne-eqb (suc (suc (suc (suc (suc k))))) 3 (λ e. omega arith),
-        ne-eqb (suc (suc (suc (suc (suc k))))) 4 (λ e. omega arith),
-      )
-      refl
+  clock-at =
+      by-part (λ (x : List ℕ). clockOf (trimmed x)) clock-capitals
+      (λ a. no-clock (orEmpty (entry bandNames a)) (entry-all timeless timeless-empty bandNames timeless-bands a))
+      (λ a. no-clock (orEmpty (entry modeNames a)) (entry-all timeless timeless-empty modeNames timeless-modes a))
+      text
 
   pub moment-of-parts : (p q : Place) (x y : List ℕ) (r : Moment) → x ≡ part text p → y ≡ part text q → r ≡ momentOf x y
       → r ≡ momentOf (bytes text p) (bytes text q)

@@ -1,7 +1,7 @@
 -- What a test looks at is what a place stands for; and the tests on keys, one text after the other. Assumes nothing.
 use mathlib.Core.Path.{_≡_, refl, sym, ap}
 use mathlib.Core.Bool.{Bool, true, false}
-use mathlib.Core.List.{List, [], _∷_}
+use mathlib.Core.List.{List, []}
 use Prim.Native.Nat.{ℕ, zero, suc, _≤_}
 use native.Mathlib.Omega.{arith}
 use lib.ListN.{length, take, drop}
@@ -11,9 +11,9 @@ use mir.Syntax.{w64}
 use mir.Val.{SFits, toZ, ofZ}
 use mir.ValLaws.{toZ-ofZ}
 use borrow.Author.Tests.{leb-true, ne-eqb}
-use Rattle.text.specs.Pick.{pick, both, either}
+use Rattle.text.specs.Pick.{pick, either}
 use Rattle.text.specs.Space.{trimmed}
-use Rattle.text.proofs.BoolLaws.{both-left, both-right, either-none}
+use Rattle.text.proofs.BoolLaws.{either-none}
 use Rattle.letters.specs.Capitals.{capitals}
 use Rattle.letters.specs.Same.{same, sameRaised}
 use Rattle.letters.proofs.CapitalLaws.{capitals-twice}
@@ -32,12 +32,11 @@ use Rattle.dedupe.specs.Keys.{inLog, inFile, naturalKey, unmatched, dupl
 use Rattle.dedupe.specs.Views.{cased, view, viewed, keysInLog, keysInFile, keysNatural, keysUnmatched, keysDuplicate}
 use Rattle.dedupe.specs.declared.Key.{Key}
 use Rattle.dedupe.specs.declared.Test.{Test}
+use Rattle.dedupe.proofs.PartLaws.{entry-all}
 
 -- ---- the names of entries have at most twelve bytes, so they are spelled out whole
 entry-short : (l : List (List ℕ)) → all (λ (x : List ℕ). leb (length x) 12) l ≡ true → (k : ℕ) → length (orEmpty (entry l k)) ≤ 12
-entry-short [] e k = omega arith
-entry-short (x ∷ xs) e zero = leb-true (length x) 12 (both-left (leb (length x) 12) (all (λ (y : List ℕ). leb (length y) 12) xs) e)
-entry-short (x ∷ xs) e (suc k) = entry-short xs (both-right (leb (length x) 12) (all (λ (y : List ℕ). leb (length y) 12) xs) e) k
+entry-short l e k = leb-true (length (orEmpty (entry l k))) 12 (entry-all (λ (x : List ℕ). leb (length x) 12) refl l e k)
 
 short-bands : all (λ (x : List ℕ). leb (length x) 12) bandNames ≡ true
 unfolding bandNames bands

@@ -1,4 +1,4 @@
--- The promises of `number_in` and `key_in` are met by one answer each, that of `fill` by one table of rows. Assumes nothing.
+-- The promises of `number_in`, `with_number` and `key_in` are met by one answer each, that of `fill` by one table of rows. Assumes nothing.
 use mathlib.Core.Path.{_≡_, sym, _∙_}
 use contract.Lifetimes.{Lfts}
 use denote.Triple.Clauses.{AtExit}
@@ -7,6 +7,8 @@ use borrow.Fn.Kinds.{Dens, resT, endedOf}
 use Rattle.text.proofs.Once.{Once}
 use Rattle.entries.proofs.number_in.Reads as number-in
 use Rattle.entries.proofs.number_in.Kinds as number-in-kinds
+use Rattle.entries.proofs.with_number.Reads as with-number
+use Rattle.entries.proofs.with_number.Kinds as with-number-kinds
 use Rattle.entries.proofs.key_in.Reads as key-in
 use Rattle.entries.proofs.key_in.Kinds as key-in-kinds
 use Rattle.entries.proofs.fill.Reads as fill
@@ -14,6 +16,9 @@ use Rattle.entries.proofs.fill.Kinds as fill-kinds
 
 number-in-once : Once 0 number-in-kinds.ps number-in-kinds.r number-in.Post
 number-in-once κs a x y d e p q = p ∙ sym q
+
+with-number-once : Once 0 with-number-kinds.ps with-number-kinds.r with-number.Post
+with-number-once κs a x y d e p q = p ∙ sym q
 
 key-in-once : Once 0 key-in-kinds.ps key-in-kinds.r key-in.Post
 key-in-once κs a x y d e p q = p ∙ sym q

@@ -1,11 +1,10 @@
 -- The code and the reason of a record, by what its places show: neither looks at the case of letters. Assumes nothing.
 use mathlib.Core.Path.{_≡_, refl, sym, ap, _∙_}
 use mathlib.Core.Bool.{Bool, true, false, not}
-use mathlib.Core.List.{List, [], _∷_}
-use Prim.Native.Nat.{ℕ, zero, suc}
-use native.Mathlib.Omega.{arith}
-use lib.ListN.{length, take, drop, length-map}
-use borrow.Author.Tests.{ne-eqb, not-true}
+use mathlib.Core.List.{List, []}
+use Prim.Native.Nat.{ℕ}
+use lib.ListN.{length, take, length-map}
+use borrow.Author.Tests.{not-true}
 use Rattle.text.specs.Pick.{both}
 use Rattle.text.specs.Space.{space1, space2, space3, space80, spaceLen, spaceBack, width, trimStart, trimEnd, trimmed, blank}
 use Rattle.text.specs.Walk.{lead}
@@ -15,11 +14,12 @@ use Rattle.letters.proofs.SpaceLaws.{trim-capitals, blank-capitals}
 use Rattle.tables.specs.Table.{entry}
 use Rattle.tables.specs.Bands.{bands, bandNames}
 use Rattle.tables.specs.Modes.{modes, modeNames}
-use Rattle.tables.specs.Place.{place, part, value, orEmpty, bytes, nameOf}
+use Rattle.tables.specs.Place.{place, part, orEmpty, bytes, nameOf}
 use Rattle.tables.specs.declared.Name.{Name}
 use Rattle.tables.specs.declared.Place.{Place}
 use Rattle.tables.proofs.Tested.{all}
 use Rattle.dedupe.specs.Views.{cased}
+use Rattle.dedupe.proofs.PartLaws.{entry-all, by-part}
 use Rattle.dedupe.proofs.ViewLaws.{view-at}
 use Rattle.dedupe.proofs.MomentLaws.{all-raised}
 use Rattle.contacts.specs.Contacts.{isDate, isTime}
@@ -69,11 +69,6 @@ undated-empty : undated [] ≡ true
 unfolding isDate isTime trimmed trimStart trimEnd lead
 undated-empty = refl
 
-undated-entry : (l : List (List ℕ)) → all undated l ≡ true → (k : ℕ) → undated (orEmpty (entry l k)) ≡ true
-undated-entry [] e k = undated-empty
-undated-entry (x ∷ xs) e zero = both-left (undated x) (all undated xs) e
-undated-entry (x ∷ xs) e (suc k) = undated-entry xs (both-right (undated x) (all undated xs) e) k
-
 no-date : (x : List ℕ) → undated x ≡ true → isDate (trimmed x) ≡ isDate (trimmed [])
 no-date x e =
     not-true _ (both-left (not (isDate (trimmed x))) (not (isTime (trimmed x))) e)
@@ -86,38 +81,19 @@ no-time x e =
 
 module _ (text : List ℕ) where
   date-at : (k a n : ℕ) → isDate (trimmed (bytes text (place k a n))) ≡ isDate (trimmed (part text (place k a n)))
-  unfolding value part
-  date-at zero a n = refl
-  date-at (suc zero) a n = refl
-  date-at (suc (suc zero)) a n = date-capitals (take n (drop a text))
-  date-at (suc (suc (suc zero))) a n = no-date (orEmpty (entry bandNames a)) (undated-entry bandNames undated-bands a)
-  date-at (suc (suc (suc (suc zero)))) a n = no-date (orEmpty (entry modeNames a)) (undated-entry modeNames undated-modes a)
-  date-at (suc (suc (suc (suc (suc k))))) a n =
-      rw (
-        ne-eqb (suc (suc (suc (suc (suc k))))) 1 (λ e. omega arith),
-        ne-eqb (suc (suc (suc (suc (suc k))))) 2 (λ e. omega arith),
-        ne-eqb (suc (suc (suc (suc (suc k))))) 3 (λ e. omega arith),
-        ne-eqb (suc (suc (suc (suc (suc k))))) 4 (λ e. omega arith),
-      )
-      refl
+  date-at =
+      by-part (λ (x : List ℕ). isDate (trimmed x)) date-capitals
+      (λ a. no-date (orEmpty (entry bandNames a)) (entry-all undated undated-empty bandNames undated-bands a))
+      (λ a. no-date (orEmpty (entry modeNames a)) (entry-all undated undated-empty modeNames undated-modes a))
+      text
 
   time-at : (k a n : ℕ) → isTime (trimmed (bytes text (place k a n))) ≡ isTime (trimmed (part text (place k a n)))
-  unfolding value part
-  time-at zero a n = refl
-  time-at (suc zero) a n = refl
-  time-at (suc (suc zero)) a n = time-capitals (take n (drop a text))
-  time-at (suc (suc (suc zero))) a n = no-time (orEmpty (entry bandNames a)) (undated-entry bandNames undated-bands a)
-  time-at (suc (suc (suc (suc zero)))) a n = no-time (orEmpty (entry modeNames a)) (undated-entry modeNames undated-modes a)
-  time-at (suc (suc (suc (suc (suc k))))) a n =
-      rw (
-        ne-eqb (suc (suc (suc (suc (suc k))))) 1 (λ e. omega arith),
-        ne-eqb (suc (suc (suc (suc (suc k))))) 2 (λ e. omega arith),
-        ne-eqb (suc (suc (suc (suc (suc k))))) 3 (λ e. omega arith),
-        ne-eqb (suc (suc (suc (suc (suc k))))) 4 (λ e. omega arith),
-      )
-      refl
+  time-at =
+      by-part (λ (x : List ℕ). isTime (trimmed x)) time-capitals
+      (λ a. no-time (orEmpty (entry bandNames a)) (entry-all undated undated-empty bandNames undated-bands a))
+      (λ a. no-time (orEmpty (entry modeNames a)) (entry-all undated undated-empty modeNames undated-modes a))
+      text
 
-  -- ---- the code and the reason
   module _ (call mode band date time : Place) (inexact : Bool) where
     judged-same : judgedAs (named text call) (named text mode) (named text band) (part text date) (part text time) inexact ≡ judgedOf text call mode band date time inexact
     unfolding judgedOf judgedAs fileCode codeOf reasonOf

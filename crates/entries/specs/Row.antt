@@ -5,10 +5,10 @@
 -- first row in the table of rows, 21 how many it has there, 22 the contact that it found, by number and one, 23 whether it bears a
 -- confirmation, 24 the services that count at it, as bits, 25 and 26 the chains of records at which a service counts, 27 the place of the
 -- found contact's entry in the list. A number of 64 bits has its low half first.
-use Prim.Native.Nat.{ℕ}
+use Prim.Native.Nat.{ℕ, zero, suc}
 use mathlib.Core.Bool.{Bool}
 use mathlib.Core.List.{List, [], _∷_}
-use lib.ListN.{getD, replicate}
+use lib.ListN.{getD, replicate, set}
 use Rattle.text.specs.Pick.{pick}
 use Rattle.text.specs.Space.{trimmed}
 use Rattle.tables.specs.Place.{place}
@@ -34,6 +34,14 @@ Row = List ℕ
 
 abbrev pub noRow : Row
 noRow = replicate 28 0
+
+-- n numbers of a row, from i on; the row with another number in a column
+abbrev pub numbersFrom : Row → ℕ → ℕ → List ℕ
+numbersFrom r i zero = []
+numbersFrom r i (suc n) = getD r i 0 ∷ numbersFrom r (suc i) n
+
+abbrev pub withNumber : Row → ℕ → ℕ → Row
+withNumber r column value = set (numbersFrom r 0 28) column value
 
 -- ---- what a row says
 abbrev pub callIn : Row → Place

@@ -9,7 +9,7 @@ ghost use Rattle.adif.specs.Reading.{readText};
 ghost use Rattle.writer.specs.Rows.{rowsFrom};
 ghost use Rattle.plan.specs.Entry.{isRefused};
 ghost use Rattle.plan.specs.Fates.{bearsAny};
-ghost use Rattle.entries.specs.Row.{keyIn, oneIf, rowWith, entryRow};
+ghost use Rattle.entries.specs.Row.{withNumber, keyIn, oneIf, rowWith, entryRow};
 ghost use Rattle.entries.specs.Filled.{ReadInto, entriesRead, Said, Answered, Bare};
 ghost use Rattle.entries.specs.Walked.{shownAs, judgedAs, judgedOf, sizeIn, entryRows};
 use columns::BAND;
@@ -30,6 +30,16 @@ pub fn number_in(row: [u32; 28], column: usize) -> usize
     ensures { λ r. ⌜ r ≡ getD row column 0 ⌝ }
 {
     row[column] as usize
+}
+
+// The row with another number in a column.
+pub fn with_number(row: [u32; 28], column: usize, value: u32) -> [u32; 28]
+    requires { ⌜ column < 28 ⌝ }
+    ensures { λ r. ⌜ r ≡ withNumber row column value ⌝ }
+{
+    let mut other = row;
+    other[column] = value;
+    other
 }
 
 // The call, mode and band that it says.

@@ -2,12 +2,12 @@
 use Prim.Native.Nat.{ℕ, _+_}
 use mathlib.Core.Path.{_≡_}
 use mathlib.Core.Bool.{Bool}
-use mathlib.Core.List.{List, [], _∷_}
+use mathlib.Core.List.{List, []}
 use lib.ListN.{length, getD, set, drop}
 use lib.Dec.{ltb}
 use Rattle.chain.specs.Chain.{col}
 use Rattle.plan.specs.Fates.{fateOf}
-use Rattle.entries.specs.Row.{Row}
+use Rattle.entries.specs.Row.{Row, withNumber}
 use Rattle.infile.specs.Infile.{repeatedIn, Chained}
 use Rattle.fates.specs.Fated.{keptOf}
 
@@ -18,10 +18,7 @@ fateIn text limit download rows k =
 
 -- a row with another fate
 abbrev pub withFate : Row → ℕ → Row
-withFate r fate =
-    fate ∷ getD r 1 0 ∷ getD r 2 0 ∷ getD r 3 0 ∷ getD r 4 0 ∷ getD r 5 0 ∷ getD r 6 0 ∷ getD r 7 0 ∷ getD r 8 0 ∷ getD r 9 0
-    ∷ getD r 10 0 ∷ getD r 11 0 ∷ getD r 12 0 ∷ getD r 13 0 ∷ getD r 14 0 ∷ getD r 15 0 ∷ getD r 16 0 ∷ getD r 17 0 ∷ getD r 18 0
-    ∷ getD r 19 0 ∷ getD r 20 0 ∷ getD r 21 0 ∷ getD r 22 0 ∷ getD r 23 0 ∷ getD r 24 0 ∷ getD r 25 0 ∷ getD r 26 0 ∷ getD r 27 0 ∷ []
+withFate r fate = withNumber r 0 fate
 
 unfoldable pub fated : List Row → ℕ → ℕ → List Row
 fated rows k fate = set rows k (withFate (getD rows k []) fate)

@@ -68,36 +68,7 @@ fn fate_in(text: &[u8], rows: &[[u32; 28]], n: usize, k: usize, limit: u64, down
 fn with_fate(r: [u32; 28], fate: u32) -> [u32; 28]
     ensures { λ x. ⌜ x ≡ withFate r fate ⌝ }
 {
-    [
-        fate,
-        r[1],
-        r[2],
-        r[3],
-        r[4],
-        r[5],
-        r[6],
-        r[7],
-        r[8],
-        r[9],
-        r[10],
-        r[11],
-        r[12],
-        r[13],
-        r[14],
-        r[15],
-        r[16],
-        r[17],
-        r[18],
-        r[19],
-        r[20],
-        r[21],
-        r[22],
-        r[23],
-        r[24],
-        r[25],
-        r[26],
-        r[27],
-    ]
+    entries::with_number(r, 0, fate)
 }
 
 fn put_fate(rows: &mut [[u32; 28]], k: usize, fate: u32)

@@ -2,7 +2,7 @@
 use Prim.Native.Nat.{ℕ, suc, _%_, _≤_, _<_}
 use mathlib.Core.Path.{_≡_}
 use mathlib.Core.Bool.{Bool}
-use mathlib.Core.List.{List, [], _∷_}
+use mathlib.Core.List.{List, []}
 use lib.ListN.{length, getD, set}
 use lib.Dec.{eqb}
 use Rattle.text.specs.Pick.{pick, both}
@@ -10,7 +10,7 @@ use Rattle.tables.specs.Place.{bytes}
 use Rattle.dedupe.specs.Views.{keysInFile}
 use Rattle.chain.specs.Chain.{any, col, Linked}
 use Rattle.search.specs.Search.{near}
-use Rattle.entries.specs.Row.{Row, callIn, modeIn, bandIn, keyIn, momentIn, fileCode}
+use Rattle.entries.specs.Row.{Row, callIn, modeIn, bandIn, keyIn, momentIn, fileCode, withNumber}
 
 -- the same call, mode and band, all trimmed, and nearer than the limit
 unfoldable pub alike : List ℕ → ℕ → Row → Row → Bool
@@ -34,16 +34,10 @@ pub record Chained (text : List ℕ) (n k : ℕ) (rows : List Row) : Type 0 wher
 
 -- a row with another head, with another next
 abbrev pub withHead : Row → ℕ → Row
-withHead r v =
-    getD r 0 0 ∷ getD r 1 0 ∷ v ∷ getD r 3 0 ∷ getD r 4 0 ∷ getD r 5 0 ∷ getD r 6 0 ∷ getD r 7 0 ∷ getD r 8 0 ∷ getD r 9 0
-    ∷ getD r 10 0 ∷ getD r 11 0 ∷ getD r 12 0 ∷ getD r 13 0 ∷ getD r 14 0 ∷ getD r 15 0 ∷ getD r 16 0 ∷ getD r 17 0 ∷ getD r 18 0
-    ∷ getD r 19 0 ∷ getD r 20 0 ∷ getD r 21 0 ∷ getD r 22 0 ∷ getD r 23 0 ∷ getD r 24 0 ∷ getD r 25 0 ∷ getD r 26 0 ∷ getD r 27 0 ∷ []
+withHead r v = withNumber r 2 v
 
 abbrev pub withNext : Row → ℕ → Row
-withNext r v =
-    getD r 0 0 ∷ getD r 1 0 ∷ getD r 2 0 ∷ v ∷ getD r 4 0 ∷ getD r 5 0 ∷ getD r 6 0 ∷ getD r 7 0 ∷ getD r 8 0 ∷ getD r 9 0
-    ∷ getD r 10 0 ∷ getD r 11 0 ∷ getD r 12 0 ∷ getD r 13 0 ∷ getD r 14 0 ∷ getD r 15 0 ∷ getD r 16 0 ∷ getD r 17 0 ∷ getD r 18 0
-    ∷ getD r 19 0 ∷ getD r 20 0 ∷ getD r 21 0 ∷ getD r 22 0 ∷ getD r 23 0 ∷ getD r 24 0 ∷ getD r 25 0 ∷ getD r 26 0 ∷ getD r 27 0 ∷ []
+withNext r v = withNumber r 3 v
 
 -- row k goes to the front of chain b
 unfoldable pub nexted : List Row → ℕ → ℕ → List Row

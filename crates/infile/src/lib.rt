@@ -9,6 +9,7 @@ ghost use Rattle.entries.specs.Row.{momentIn};
 ghost use Rattle.infile.specs.Infile.{alike, repeatedIn, Chained, withHead, withNext, pushed};
 use entries::key_in;
 use entries::number_in;
+use entries::with_number;
 use times::Moment;
 
 pub fn moment_in(row: [u32; 28]) -> Moment
@@ -56,71 +57,13 @@ fn head_in(row: [u32; 28]) -> u32
 fn with_head(r: [u32; 28], v: u32) -> [u32; 28]
     ensures { λ x. ⌜ x ≡ withHead r v ⌝ }
 {
-    [
-        r[0],
-        r[1],
-        v,
-        r[3],
-        r[4],
-        r[5],
-        r[6],
-        r[7],
-        r[8],
-        r[9],
-        r[10],
-        r[11],
-        r[12],
-        r[13],
-        r[14],
-        r[15],
-        r[16],
-        r[17],
-        r[18],
-        r[19],
-        r[20],
-        r[21],
-        r[22],
-        r[23],
-        r[24],
-        r[25],
-        r[26],
-        r[27],
-    ]
+    with_number(r, 2, v)
 }
 
 fn with_next(r: [u32; 28], v: u32) -> [u32; 28]
     ensures { λ x. ⌜ x ≡ withNext r v ⌝ }
 {
-    [
-        r[0],
-        r[1],
-        r[2],
-        v,
-        r[4],
-        r[5],
-        r[6],
-        r[7],
-        r[8],
-        r[9],
-        r[10],
-        r[11],
-        r[12],
-        r[13],
-        r[14],
-        r[15],
-        r[16],
-        r[17],
-        r[18],
-        r[19],
-        r[20],
-        r[21],
-        r[22],
-        r[23],
-        r[24],
-        r[25],
-        r[26],
-        r[27],
-    ]
+    with_number(r, 3, v)
 }
 
 // Record k goes to the front of chain b.

@@ -1,13 +1,13 @@
 -- What a record finds in the log, and its row with that: number 22 the contact, by number and one, number 27 the place of its entry.
 use Prim.Native.Nat.{ℕ, _<_}
-use mathlib.Core.List.{List, [], _∷_, map}
-use lib.ListN.{getD, take}
+use mathlib.Core.List.{List, map}
+use lib.ListN.{take}
 use Rattle.tables.specs.Place.{bytes}
 use Rattle.contacts.specs.Lists.{contactsOf}
 use Rattle.index.specs.Rows as index
 use Rattle.wanted.specs.declared.Wanted.{Wanted}
 use Rattle.search.specs.Search.{firstMatch, placeOf, Indexed}
-use Rattle.entries.specs.Row.{Row, callIn, modeIn, bandIn, keyIn, momentIn}
+use Rattle.entries.specs.Row.{Row, callIn, modeIn, bandIn, keyIn, momentIn, withNumber}
 
 -- what a row wants of the log
 abbrev pub wantedIn : Row → Wanted
@@ -18,11 +18,7 @@ unfoldable pub hitIn : List ℕ → List ℕ → ℕ → Row → ℕ
 hitIn text list limit r = firstMatch (bytes text (callIn r)) (bytes text (modeIn r)) (bytes text (bandIn r)) (momentIn r) limit (contactsOf list)
 
 abbrev pub withHit : Row → ℕ → ℕ → Row
-withHit r number place =
-    getD r 0 0 ∷ getD r 1 0 ∷ getD r 2 0 ∷ getD r 3 0 ∷ getD r 4 0 ∷ getD r 5 0 ∷ getD r 6 0 ∷ getD r 7 0 ∷ getD r 8 0
-    ∷ getD r 9 0 ∷ getD r 10 0 ∷ getD r 11 0 ∷ getD r 12 0 ∷ getD r 13 0 ∷ getD r 14 0 ∷ getD r 15 0 ∷ getD r 16 0
-    ∷ getD r 17 0 ∷ getD r 18 0 ∷ getD r 19 0 ∷ getD r 20 0 ∷ getD r 21 0 ∷ number ∷ getD r 23 0 ∷ getD r 24 0 ∷ getD r 25 0
-    ∷ getD r 26 0 ∷ place ∷ []
+withHit r number place = withNumber (withNumber r 22 number) 27 place
 
 unfoldable pub loggedRow : List ℕ → List ℕ → ℕ → Row → Row
 loggedRow text list limit r = withHit r (hitIn text list limit r) (placeOf list (hitIn text list limit r))

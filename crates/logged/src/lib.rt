@@ -22,36 +22,11 @@ fn with_hit(r: [u32; 28], hit: Hit) -> [u32; 28]
     requires { ⌜ (hit .number < 4294967296) × (hit .place < 4294967296) ⌝ }
     ensures { λ x. ⌜ x ≡ withHit r (hit .number) (hit .place) ⌝ }
 {
-    [
-        r[0],
-        r[1],
-        r[2],
-        r[3],
-        r[4],
-        r[5],
-        r[6],
-        r[7],
-        r[8],
-        r[9],
-        r[10],
-        r[11],
-        r[12],
-        r[13],
-        r[14],
-        r[15],
-        r[16],
-        r[17],
-        r[18],
-        r[19],
-        r[20],
-        r[21],
-        hit.number as u32,
-        r[23],
-        r[24],
-        r[25],
-        r[26],
+    entries::with_number(
+        entries::with_number(r, 22, hit.number as u32),
+        27,
         hit.place as u32,
-    ]
+    )
 }
 
 // The first n records are looked up in the log.

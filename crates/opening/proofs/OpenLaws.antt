@@ -22,7 +22,7 @@ use Rattle.contacts.specs.declared.Listed.the-variants.{Marked, Refused as Refu
 use Rattle.entries.specs.Row.{Row, noRow}
 use Rattle.entries.specs.Filled.{ReadInto}
 use Rattle.entries.specs.Walked.{entryRows}
-use Rattle.cards.specs.Carded.{noCard}
+use Rattle.plan.specs.Cards.{noCard}
 use Rattle.opening.specs.Opened.{readBy, openedAs, openedTable, openedFates, OpenedRead, Opened, recordsIn}
 
 pub unread-read : {P : Type 0} (why : Refusal) (n used : ℕ) → Unread why ≡ Read n used → P

@@ -17,7 +17,7 @@ use Rattle.contacts.specs.declared.Listed.{Listed}
 use Rattle.contacts.specs.declared.Listed.the-variants.{Marked, Refused as RefusedList}
 use Rattle.entries.specs.Row.{Row, noRow}
 use Rattle.entries.specs.Walked.{entryRows}
-use Rattle.cards.specs.Carded.{noCard}
+use Rattle.plan.specs.Cards.{noCard}
 
 -- with so many rows lent
 unfoldable pub readBy : ℕ → RowsRead → Reading

@@ -13,7 +13,7 @@ use Rattle.contacts.specs.declared.Listed.{Listed}
 use Rattle.contacts.specs.declared.Listed.the-variants.{Marked, Refused as RefusedList}
 use Rattle.indexing.specs.Index.{countIn}
 use Rattle.plan.specs.Plan.{Plan}
-use Rattle.cards.specs.Carded.{noCard}
+use Rattle.plan.specs.Cards.{noCard}
 use Rattle.cards.specs.declared.Carded.{Carded}
 use Rattle.cards.specs.declared.Carded.the-variants.{Counted, Full}
 use Rattle.closing.specs.Phases.{Searched, planRead}

@@ -33,7 +33,7 @@ use Rattle.entries.specs.Row.{Row, noRow}
 use Rattle.entries.specs.Filled.{ReadInto, entriesRead}
 use Rattle.entries.specs.Walked.{entryRows}
 use Rattle.entries.proofs.FilledLaws.{filled-behind, filled-said, filled-answered, filled-bare}
-use Rattle.cards.specs.Carded.{noCard}
+use Rattle.plan.specs.Cards.{noCard}
 use Rattle.logged.specs.Logged.{loggedRows, Searchable}
 use Rattle.logged.proofs.FoundLaws.{place-few}
 use Rattle.logged.proofs.LoggedLaws.{logged-length, logged-behind, logged-said, logged-answered, logged-bare, logged-places, logged-hits, logged-within}

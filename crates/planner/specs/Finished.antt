@@ -17,7 +17,7 @@ use Rattle.contacts.specs.declared.Listed.the-variants.{Marked, Refused as Refu
 use Rattle.indexing.specs.Index.{countIn}
 use Rattle.plan.specs.Plan.{Plan}
 use Rattle.entries.specs.Row.{Row, noRow}
-use Rattle.cards.specs.Carded.{cardRow, noCard}
+use Rattle.plan.specs.Cards.{cardRow, noCard}
 use Rattle.closing.specs.Phases.{Searched, planRead}
 use Rattle.closing.specs.Closed.{fateRows, padded}
 use Rattle.planner.specs.Planning.{made}

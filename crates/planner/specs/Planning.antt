@@ -20,7 +20,7 @@ use Rattle.indexing.specs.Index.{indexedAs, indexAfter}
 use Rattle.plan.specs.Entry.{entriesOf}
 use Rattle.plan.specs.Plan.{Plan, planned}
 use Rattle.entries.specs.Row.{Row, noRow}
-use Rattle.cards.specs.Carded.{cardRow, noCard}
+use Rattle.plan.specs.Cards.{cardRow, noCard}
 use Rattle.closing.specs.Closed.{fateRows, padded}
 use Rattle.planner.specs.declared.Planned.{Planned}
 use Rattle.planner.specs.declared.Planned.the-variants.{Made, Refused}

@@ -1,37 +1,33 @@
 -- A QSO that its writer takes is a record that can be written and whose names rise. Assumes nothing.
-use mathlib.Core.Path.{_≡_, refl, sym, ap, _∙_}
+use mathlib.Core.Path.{_≡_, refl, ap, _∙_}
 use mathlib.Core.Bool.{Bool, true, false}
 use mathlib.Core.List.{List, [], _∷_, map}
 use mathlib.Core.Option.{some}
 use Prim.Native.Nat.{ℕ, suc, _+_, _/_, _≤_, _<_}
 use native.Mathlib.Omega.{arith}
 use lib.Dec.{leb}
-use lib.ListN.{length, getD, drop, length-map, length-take, length-drop}
+use lib.ListN.{length}
 use borrow.Author.Tests.{leb-true}
 use Rattle.text.specs.Ascii.{ascii}
 use Rattle.text.specs.Pick.{pick, both, either}
-use Rattle.text.specs.Utf8.{utf8}
 use Rattle.text.proofs.BoolLaws.{both-left, both-right}
-use Rattle.letters.specs.Capitals.{raised, capitals}
+use Rattle.letters.specs.Capitals.{capitals}
 use Rattle.letters.specs.Same.{same}
 use Rattle.letters.specs.Order.{order, orderRaised}
 use Rattle.letters.specs.declared.Order.the-variants.{Less}
-use Rattle.letters.proofs.CapitalLaws.{capitals-twice}
-use Rattle.letters.proofs.SpaceLaws.{trim-capitals}
 use Rattle.refusals.specs.declared.Refusal.{Refusal}
 use Rattle.refusals.specs.declared.Refusal.the-variants.{TooLong, ManyNames, BadRow, BadName, FrequencyTooHigh}
 use Rattle.refusals.specs.declared.Verdict.{Verdict}
 use Rattle.refusals.specs.declared.Verdict.the-variants.{Accepted, Refused}
-use Rattle.tags.specs.Tags.{colon, gt}
+use Rattle.tags.specs.Tags.{gt}
 use Rattle.adif.specs.Grammar.{Field}
 use Rattle.adif.specs.Limits.{Ascending}
-use Rattle.rowcheck.specs.Check.{Row, nameIn, valueIn, placed, sound, writable}
+use Rattle.rowcheck.specs.Check.{Row, nameIn, placed, sound, writable}
 use Rattle.rowcheck.proofs.FineLaws.{refused-not, passed, onward, less}
 use Rattle.writer.specs.Rows.{rowsOf, rowField}
 use Rattle.trip.specs.File.{Good, AllGood, Writable}
 use Rattle.trip.proofs.Means.{named}
-use Rattle.trip.proofs.Raised.{good-raised, kind-raised, without-raised}
-use Rattle.trip.proofs.Accepted.{name-trim, name-colon, name-gt, name-kind, utf8-is}
+use Rattle.trip.proofs.Accepted.{field-good}
 use Rattle.model.specs.Contact.{contact}
 use Rattle.model.specs.Answer.{isQso}
 use Rattle.model.specs.declared.Qso.{Qso}
@@ -53,21 +49,6 @@ taken-is [] x = refl
 taken-is (f ∷ fs) x = ap (either (same (f .name) (capitals x))) (taken-is fs x)
 
 module _ (text : List ℕ) (small : length text ≤ 16777216) (fs : List Field) where
-  -- a row that can be written
-  row-good : (r : Row) → sound text r ≡ true → writable (nameIn text r) ≡ true → Good (rowField text r)
-  unfolding sound
-  row-good r s can =
-      record {
-        trim = trim-capitals (nameIn text r) ∙ ap capitals (name-trim (nameIn text r) can);
-        capital = capitals-twice (nameIn text r);
-        no-colon = without-raised colon (nameIn text r) (omega arith) (name-colon (nameIn text r) can);
-        no-gt = without-raised gt (nameIn text r) (omega arith) (name-gt (nameIn text r) can);
-        plain = kind-raised (nameIn text r) ∙ name-kind (nameIn text r) can;
-        name-utf8 = good-raised (nameIn text r) ∙ utf8-is (nameIn text r) (both-left (utf8 (nameIn text r)) (utf8 (valueIn text r)) s) ∙ sym (length-map (nameIn text r) raised);
-        value-utf8 = utf8-is (valueIn text r) (both-right (utf8 (nameIn text r)) (utf8 (valueIn text r)) s);
-        short = omega (arith, length-take (getD r 4 0) (drop (getD r 3 0) text), length-drop (getD r 3 0) text);
-      }
-
   module _ (n : ℕ) (risen : Bool) (r : Row) (v : rowVerdict text fs n risen r ≡ Accepted) where
     abbrev counting : Verdict
     counting = pick (leb (countWith text fs n r) 256) Accepted (Refused ManyNames)
@@ -83,7 +64,7 @@ module _ (text : List ℕ) (small : length text ≤ 16777216) (fs : List Field) 
 
     taken-good : Good (rowField text r)
     taken-good =
-        row-good r (both-right (placed text r) (sound text r) (both-left (both (placed text r) (sound text r)) risen stands))
+        field-good text (omega arith) r (both-right (placed text r) (sound text r) (both-left (both (placed text r) (sound text r)) risen stands))
         (passed BadName (writable (nameIn text r)) counting named-well)
 
     has-risen : risen ≡ true

@@ -93,26 +93,24 @@ unfolding utf8
 utf8-is xs e = eqb-true (validUpTo xs) (length xs) e
 
 module _ (text : List ℕ) (small : length text < 2 ^ 64) where
+  -- a row that can be written
+  pub field-good : (r : Row) → sound text r ≡ true → writable (nameIn text r) ≡ true → Good (rowField text r)
+  unfolding sound
+  field-good r s can =
+      record {
+        trim = trim-capitals (nameIn text r) ∙ ap capitals (name-trim (nameIn text r) can);
+        capital = capitals-twice (nameIn text r);
+        no-colon = without-raised colon (nameIn text r) (omega arith) (name-colon (nameIn text r) can);
+        no-gt = without-raised gt (nameIn text r) (omega arith) (name-gt (nameIn text r) can);
+        plain = kind-raised (nameIn text r) ∙ name-kind (nameIn text r) can;
+        name-utf8 = good-raised (nameIn text r) ∙ utf8-is (nameIn text r) (both-left (utf8 (nameIn text r)) (utf8 (valueIn text r)) s) ∙ sym (length-map (nameIn text r) raised);
+        value-utf8 = utf8-is (valueIn text r) (both-right (utf8 (nameIn text r)) (utf8 (valueIn text r)) s);
+        short = omega (arith, length-take (getD r 4 0) (drop (getD r 3 0) text), length-drop (getD r 3 0) text);
+      }
+
   module _ (n c : ℕ) (p r : Row) (v : verdict text n c p r ≡ Accepted) where
-    sounds : both (utf8 (nameIn text r)) (utf8 (valueIn text r)) ≡ true
-    unfolding sound
-    sounds = is-sound text n c p r v
-
-    can : writable (nameIn text r) ≡ true
-    can = is-writable text n c p r v
-
     row-good : Good (rowField text r)
-    row-good =
-        record {
-          trim = trim-capitals (nameIn text r) ∙ ap capitals (name-trim (nameIn text r) can);
-          capital = capitals-twice (nameIn text r);
-          no-colon = without-raised colon (nameIn text r) (omega arith) (name-colon (nameIn text r) can);
-          no-gt = without-raised gt (nameIn text r) (omega arith) (name-gt (nameIn text r) can);
-          plain = kind-raised (nameIn text r) ∙ name-kind (nameIn text r) can;
-          name-utf8 = good-raised (nameIn text r) ∙ utf8-is (nameIn text r) (both-left (utf8 (nameIn text r)) (utf8 (valueIn text r)) sounds) ∙ sym (length-map (nameIn text r) raised);
-          value-utf8 = utf8-is (valueIn text r) (both-right (utf8 (nameIn text r)) (utf8 (valueIn text r)) sounds);
-          short = omega (arith, length-take (getD r 4 0) (drop (getD r 3 0) text), length-drop (getD r 3 0) text);
-        }
+    row-good = field-good r (is-sound text n c p r v) (is-writable text n c p r v)
 
     -- the same record, or another
     same-number : endsBefore n (r ∷ []) ≡ false → n ≡ recordIn r

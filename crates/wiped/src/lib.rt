@@ -4,7 +4,7 @@ ghost use Prim.Native.Nat.{_≤_};
 ghost use lib.ListN.{length, replicate};
 ghost use lib.Seq.{sets};
 ghost use Rattle.entries.specs.Row.{noRow};
-ghost use Rattle.cards.specs.Carded.{noCard};
+ghost use Rattle.plan.specs.Cards.{noCard};
 ghost use Rattle.wiped.specs.Kept.{keptRow, keptRows};
 
 fn no_fate() -> [u32; 28]

@@ -2,7 +2,7 @@ use Prim.Native.Nat.{_≤_, _-_}
 use mathlib.Core.Path.{_≡_}
 use lib.ListN.{length}
 use borrow.Author.Needs.{needs}
-use Rattle.cards.specs.Carded.{noCard}
+use Rattle.plan.specs.Cards.{noCard}
 use Rattle.chain.proofs.Fronts.{Wiping, wipe-start, wipe-on, wipe-end}
 use Rattle.wiped.proofs.clear_cards.Statement.{statement}
 use Rattle.wiped.proofs.clear_cards.Tie as tie
