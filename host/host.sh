@@ -221,28 +221,48 @@ original() {
     with_original="--cfg original --extern original=$to/liboriginal.rlib -L $deps"
 }
 # the static library, built anew where a file or a folder of the crates is newer: the exported calls of each crate `ox_…`, whose
-# archives have one object each, as one archive. What they stand on is proved first, so that they can be built side by side.
+# archives have one object each, as one archive. They are built side by side, what they stand on being proved first: `rt` has one checkout to
+# itself, so each lane but the first has its own, with the crates and their proofs of this one.
 staticlib() {
     made=$archive/liboxbreathe.a
     if [ -f "$made" ] && [ -z "$(find "$root/crates" "$root/crates.txt" -newer "$made" | head -n 1)" ]; then
         return 0
     fi
     kit_tools
-    rm -f "$made" "$made.new"
+    rm -rf "$made" "$made.new" "$root/target/lanes"
     areas=$(sed -n 's/^\(ox_[a-z]*\):.*/\1/p' "$root/crates.txt")
     # shellcheck disable=SC2046
-    quietly rt check $(sed -n 's/^ox_[a-z]*://p' "$root/crates.txt" | tr ' ' '\n' | sort -u)
-    # the last is the longest
-    echo "$areas" | tac | xargs -P "$(nproc)" -I AREA "$0" area AREA || die "the library was not built"
+    (cd "$root" && quietly rt check $(sed -n 's/^ox_[a-z]*://p' "$root/crates.txt" | tr ' ' '\n' | sort -u))
+    lanes=$(nproc) lane=1
+    while [ "$lane" -lt "$lanes" ]; do
+        mkdir -p "$root/target/lanes/$lane/target"
+        ln -s "$root/crates" "$root/crates.txt" "$root/target/lanes/$lane/"
+        ln -s "$root/target/rlib" "$root/target/lanes/$lane/target/"
+        cp -R "$root/target/stamp" "$root/target/log" "$root/target/lanes/$lane/target/"
+        lane=$((lane + 1))
+    done
+    # the last are the longest
+    echo "$areas" | tac | xargs -n 1 -P "$lanes" --process-slot-var=LANE "$0" area || die "the library was not built"
     for area in $areas; do
         (cd "$archive" && "$tools/bin/llvm-ar" x "lib$area.a" "$area.o" && "$tools/bin/llvm-ar" rcs "$made.new" "$area.o" && rm "$area.o")
     done
+    rm -rf "$root/target/lanes"
     mv "$made.new" "$made"
 }
-# quietly COMMAND..: from the root, shown only where it fails
+# area NAME: one of them, in its lane
+area() {
+    lane=$root
+    [ "${LANE:-0}" = 0 ] || lane=$root/target/lanes/$LANE
+    (cd "$lane" && quietly rt staticlib "$1")
+    [ "$lane" = "$root" ] || {
+        mkdir -p "$root/target/staticlib"
+        mv "$lane/target/staticlib/lib$1.a" "$root/target/staticlib/"
+    }
+}
+# quietly COMMAND..: what it prints is shown only where it fails
 quietly() {
     log=$(mktemp "$out/log.XXXXXX")
-    (cd "$root" && "$@") >"$log" 2>&1 || {
+    "$@" >"$log" 2>&1 || {
         cat "$log"
         rm -f "$log"
         die "$* failed"
@@ -368,7 +388,7 @@ library)
     archive=$root/target/staticlib
     staticlib
     ;;
-area) quietly rt staticlib "$2" ;; # one part of the library
+area) area "$2" ;; # of the library, for `library` itself
 doc) doc ;;
 importer) importer ;;
 ox) ox ;;
