@@ -2,8 +2,8 @@
 # The gate: the layout of the sources, every proof, must-fail edit and program, the samples, the interfaces for C and Rust, the tool `ox`,
 # and the library beside Rust's std and the original. Each part runs whatever the others said. The last line is `N passed, M failed`.
 set -u
-# a prover waits where others of its level or batch still run: one more than there are processors keeps all of them busy
-export RT_JOBS="${RT_JOBS:-$(($(nproc) + 1))}"
+# a prover waits where others of its level or batch still run: two more than there are processors keep all of them busy
+export RT_JOBS="${RT_JOBS:-$(($(nproc) + 2))}"
 cd "$(dirname "$0")/.." || exit 1
 log=$(mktemp -d)
 trap 'rm -rf "$log"' EXIT
@@ -18,6 +18,23 @@ part() {
     { "$@" 2>&1; echo $? >"$log/status"; } | tee "$log/out"
     status=$(cat "$log/status")
     echo "== $name: $(($(date +%s) - began)) s"
+}
+# beside NAME COMMAND..: starts it; `part NAME ended NAME` waits for it and shows what it printed
+beside() {
+    {
+        name=$1
+        shift
+        began=$(date +%s)
+        "$@" >"$log/$name.out" 2>&1
+        status=$?
+        echo "$name took $(($(date +%s) - began)) s, beside other parts" >>"$log/$name.out"
+        echo "$status" >"$log/$name.status"
+    } &
+}
+ended() {
+    while [ ! -f "$log/$1.status" ]; do sleep 1; done
+    cat "$log/$1.out"
+    return "$(cat "$log/$1.status")"
 }
 # count PASSED FAILED: a part that failed counts for one failure at least, whatever it printed
 count() {
@@ -57,6 +74,12 @@ part interface gate/interface.sh
 # shellcheck disable=SC2046
 count $(told 'interface: \([0-9]*\) passed, \([0-9]*\) failed')
 
+part library host/host.sh library
+count $((status == 0)) 0
+
+# beside the parts that use one processor
+beside host host/host.sh compare
+
 part importer host/host.sh importer
 # shellcheck disable=SC2046
 count $(told 'importer: \([0-9]*\) passed, \([0-9]*\) failed')
@@ -69,7 +92,7 @@ part doc host/host.sh doc
 # shellcheck disable=SC2046
 count $(told 'doc: \([0-9]*\) passed, \([0-9]*\) failed')
 
-part host host/host.sh compare
+part host ended host
 # shellcheck disable=SC2046
 count $(told 'host: \([0-9]*\) groups passed, \([0-9]*\) failed, [0-9]* comparisons')
 

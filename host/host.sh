@@ -111,10 +111,13 @@ for_rust() {
     *) no_recipe ;;
     esac
 }
-# the kit's clang, with its C library
+# the kit's clang, with its C library; made once, since another part of the gate may be using it
 linker() {
     kit_tools
     run=$tools/bin/qemu-x86_64 link=$out/link
+    if [ "$(cat "$link/ok" 2>/dev/null)" = "$tools" ] && [ "$link/ok" -nt "$0" ] && [ "$link/ok" -nt "$host/emulator/shim.c" ]; then
+        return 0
+    fi
     mkdir -p "$link"
     # the kit's C library has no linker scripts: these stand for them
     for lib in util rt pthread dl; do "$tools/bin/llvm-ar" rc "$link/lib$lib.a"; done
@@ -122,11 +125,14 @@ linker() {
     echo "GROUP ( $tools/lib/libgcc_s.so.1 $tools/lib/libgcc.a )" >"$link/libgcc_s.so"
     echo "INPUT ( $tools/lib/libm.so.6 )" >"$link/libm.so"
     "$tools/bin/clang" --target=$target -O2 -fPIC -c "$host/emulator/shim.c" -o "$link/shim.o"
-    cat >"$link/cc" <<END
-#!/bin/sh
-exec $tools/bin/clang --target=$target --ld-path=$tools/bin/ld.lld -nostartfiles -Wl,--dynamic-linker=$tools/lib/ld-linux-x86-64.so.2 -Wl,-rpath,$tools/lib -L $link -L $tools/lib $tools/lib/Scrt1.o $tools/lib/crti.o $tools/lib/crtbeginS.o $link/shim.o "\$@" $tools/lib/crtendS.o $tools/lib/crtn.o
-END
-    chmod +x "$link/cc"
+    script "$link/cc" "$tools/bin/clang --target=$target --ld-path=$tools/bin/ld.lld -nostartfiles -Wl,--dynamic-linker=$tools/lib/ld-linux-x86-64.so.2 -Wl,-rpath,$tools/lib -L $link -L $tools/lib $tools/lib/Scrt1.o $tools/lib/crti.o $tools/lib/crtbeginS.o $link/shim.o \"\$@\" $tools/lib/crtendS.o $tools/lib/crtn.o"
+    echo "$tools" >"$link/ok"
+}
+# script FILE COMMAND: a script that becomes the command; in one step, since the one before it may be running
+script() {
+    printf '#!/bin/sh\nexec %s\n' "$2" >"$1.new"
+    chmod +x "$1.new"
+    mv "$1.new" "$1"
 }
 # the C library's headers and a compiler's own, neither of which the kit has
 c_headers() {
@@ -161,11 +167,7 @@ cross() {
         touch "$cache/rust.ok"
     fi
     for tool in rustc rustdoc; do
-        cat >"$link/$tool" <<END
-#!/bin/sh
-LD_LIBRARY_PATH=$(echo "$cache"/rust/usr/lib/*-linux-gnu) exec $cache/rust/usr/bin/$tool "\$@"
-END
-        chmod +x "$link/$tool"
+        script "$link/$tool" "env LD_LIBRARY_PATH=$(echo "$cache"/rust/usr/lib/*-linux-gnu) $cache/rust/usr/bin/$tool \"\$@\""
     done
 }
 
@@ -357,8 +359,7 @@ ox() {
     wrapper ox
     crate ox 2024 "$host/ox/main.rs" --extern oxbreathe="$to/liboxbreathe.rlib"
     mkdir -p "$root/target"
-    printf '#!/bin/sh\nexec %s"%s" "$@"\n' "${run:+\"$run\" }" "$to/ox" >"$root/target/ox"
-    chmod +x "$root/target/ox"
+    script "$root/target/ox" "${run:+\"$run\" }\"$to/ox\" \"\$@\""
 }
 ox_test() {
     ox
