@@ -441,14 +441,15 @@ enum ox_columns {
     OX_COLUMNS /* how many; as the answer of ox_column: none of them */
 };
 
+/* Flags of a contact are numbers, 0 or 1: with any other the contact is refused with 11. */
 typedef struct ox_hertz {
-    bool given;
+    uint32_t given;
     uint64_t hz;
 } ox_hertz;
 
 typedef struct ox_dxcc {
-    bool given;
-    bool negative;
+    uint32_t given;
+    uint32_t negative;
     uint64_t size;
 } ox_dxcc;
 

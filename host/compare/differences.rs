@@ -121,7 +121,7 @@ fn contacts(g: &mut Group) {
     let theirs = |text: &str| parse_adif_to_qsos(text).expect("a record").remove(0);
     let inexact = format!("<FREQ:16>{INEXACT}<FREQ_RX:1>7<EOR>");
     let answer = qso(&inexact);
-    g.same(&*inexact, (answer.refusal, answer.qso.freq.given, answer.qso.freq_rx.given), (15, false, false));
+    g.same(&*inexact, (answer.refusal, answer.qso.freq.given, answer.qso.freq_rx.given), (15, 0, 0));
     g.same(&*inexact, theirs(&inexact).freq_hz, Some(u64::MAX));
     let high = "<FREQ:4>1e14<EOR>";
     let answer = sys::write_qso(high.as_bytes(), qso(high).qso, &[], 0, &mut [0; 200]);

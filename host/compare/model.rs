@@ -15,6 +15,7 @@ pub fn run(run: &mut Run) {
     run.group("model/texts", texts);
     run.group("model/rows", rows);
     run.group("model/places", places);
+    run.group("model/flags", odd_flags);
 }
 
 // A record over a text of its own, as the reader would give it.
@@ -133,15 +134,15 @@ pub fn told(text: &[u8], table: &[u32], qso: &sys::Qso) -> Qso {
         band: column(3).unwrap_or_default(),
         mode: column(4).unwrap_or_default(),
         submode: column(5),
-        freq_hz: qso.freq.given.then_some(qso.freq.hz),
-        freq_rx_hz: qso.freq_rx.given.then_some(qso.freq_rx.hz),
+        freq_hz: (qso.freq.given == 1).then_some(qso.freq.hz),
+        freq_rx_hz: (qso.freq_rx.given == 1).then_some(qso.freq_rx.hz),
         band_rx: column(8),
         rst_sent: column(9),
         rst_rcvd: column(10),
         gridsquare: column(11),
-        dxcc: qso.dxcc.given.then(|| {
+        dxcc: (qso.dxcc.given == 1).then(|| {
             let size = qso.dxcc.size as i128;
-            i64::try_from(if qso.dxcc.negative { -size } else { size }).unwrap()
+            i64::try_from(if qso.dxcc.negative == 1 { -size } else { size }).unwrap()
         }),
         extra: extra.map(|row| (part(row[1], row[2]).to_ascii_uppercase(), part(row[3], row[4]))).collect(),
     }
@@ -325,7 +326,58 @@ fn rows(g: &mut Group) {
     }
 }
 
-/// Which QSOs are QSOs of a text, once more: a bad place comes back unchanged with 11.
+/// The flags of a QSO.
+pub fn flags(qso: &sys::Qso) -> [u32; 4] {
+    [qso.freq.given, qso.freq_rx.given, qso.dxcc.given, qso.dxcc.negative]
+}
+
+/// A flag, rarely one that is neither 0 nor 1.
+pub fn flag(random: &mut Random) -> u32 {
+    match random.below(40) {
+        0 => random.pick(&[2, 3, 128, 255, 256, 257, 1 << 16, 1 << 31, u32::MAX]),
+        n => (n % 2) as u32,
+    }
+}
+
+/// Each flag by itself with what is no flag, in each call that takes a QSO: 11, and the QSO comes back unchanged.
+fn odd_flags(g: &mut Group) {
+    let text = b"W1AW";
+    let mut sound = sys::Qso::default();
+    sound.columns[0] = Place { kind: 1, start: 0, len: 4 };
+    for value in (0..=300).chain([1 << 8, 1 << 16, 1 << 24, 1 << 31, u32::MAX - 1, u32::MAX]) {
+        for k in 0..4 {
+            let mut qso = sound;
+            *[&mut qso.freq.given, &mut qso.freq_rx.given, &mut qso.dxcc.given, &mut qso.dxcc.negative][k] = value;
+            let refusal = if value == 0 || value == 1 { 0 } else { 11 };
+            let normal = sys::normalize_qso(text, qso);
+            g.same((value as u64, k as u64), (normal.refusal, flags(&normal.qso)), (refusal, flags(&qso)));
+            let mut out = [7; 200];
+            let written = sys::write_qso(text, qso, &[], 0, &mut out);
+            let untouched = refusal == 0 || out == [7; 200];
+            g.same((value as u64, k as u64), (written.refusal, written.qso, untouched), (refusal, qso, true));
+            let told = |q, o| {
+                [
+                    sys::in_log(text, q, text, o),
+                    sys::in_file(text, q, text, o),
+                    sys::same_natural_key(text, q, text, o),
+                    sys::within_window(text, q, text, o, 1_800),
+                    sys::is_duplicate(text, q, text, o, 1_800),
+                ]
+                .map(|told| told.refusal)
+            };
+            g.same((value as u64, k as u64), [told(qso, sound), told(sound, qso)], [[refusal; 5]; 2]);
+        }
+    }
+    // 14 comes first, of a frequency that is given; where the flag is no flag, none is
+    for (given, refusal) in [(0, 11), (1, 14), (2, 11)] {
+        let mut qso = sound;
+        qso.freq = sys::Hertz { given, hz: u64::MAX };
+        qso.dxcc.given = 2;
+        g.same(given as u64, sys::write_qso(text, qso, &[], 0, &mut [0; 9]).refusal, refusal);
+    }
+}
+
+/// Which QSOs are QSOs of a text, once more: a bad place, or a flag that is none, comes back unchanged with 11.
 fn places(g: &mut Group) {
     for _ in 0..g.depth(3_000, 200_000) {
         let length = g.random.place(40);
@@ -350,7 +402,10 @@ fn places(g: &mut Group) {
                 _ => false,
             };
         }
-        qso.freq = sys::Hertz { given: g.random.below(2) == 0, hz: 7_000_000 + g.random.below(400_000) };
+        qso.freq = sys::Hertz { given: flag(&mut g.random), hz: 7_000_000 + g.random.below(400_000) };
+        qso.freq_rx = sys::Hertz { given: flag(&mut g.random), hz: 14_000_000 + g.random.below(400_000) };
+        qso.dxcc = sys::Dxcc { given: flag(&mut g.random), negative: flag(&mut g.random), size: g.random.below(400) };
+        good &= flags(&qso).iter().all(|flag| *flag == 0 || *flag == 1);
         let r = sys::normalize_qso(&text, qso);
         g.same(&text[..], r.refusal, if good { 0 } else { 11 });
         if !good {

@@ -3,7 +3,7 @@
 
 use crate::generate::{Random, damage, utf8};
 use crate::harness::{Group, Run};
-use crate::model::{EXTRA, Laid, inexact, laid, random_record, told, value};
+use crate::model::{EXTRA, Laid, flag, flags, inexact, laid, random_record, told, value};
 use crate::vectors::COLUMNS;
 use crate::writing::{CONTROL, Output, fitting};
 use original::adif::{AdifRecord, parse_adif, parse_adif_to_qsos, qso_to_record, record_to_qso, write_record};
@@ -25,13 +25,16 @@ fn expected(text: &[u8], qso: &sys::Qso, table: &[u32], count: usize, room: usiz
         return Err(1);
     }
     let frequencies = [qso.freq, qso.freq_rx];
-    if frequencies.iter().any(|f| f.given && f.hz >= 8_589_934_592_000_000) {
+    if frequencies.iter().any(|f| f.given == 1 && f.hz >= 8_589_934_592_000_000) {
         return Err(14);
     }
     let part = |place: u32, length: u32| {
         let bytes = text.get(place as usize..place as usize + length as usize).ok_or(11u32)?;
         std::str::from_utf8(bytes).map_err(|_| 11u32)
     };
+    if flags(qso).iter().any(|flag| ![0, 1].contains(flag)) {
+        return Err(11);
+    }
     let mut columns = Vec::new();
     for (k, p) in qso.columns.iter().enumerate() {
         columns.push(match (p.kind, k) {
@@ -58,7 +61,7 @@ fn expected(text: &[u8], qso: &sys::Qso, table: &[u32], count: usize, room: usiz
         }
     };
     let column = |k: usize| columns[k].clone();
-    let mhz = |f: sys::Hertz| f.given.then(|| format!("{}.{:06}", f.hz / 1_000_000, f.hz % 1_000_000));
+    let mhz = |f: sys::Hertz| (f.given == 1).then(|| format!("{}.{:06}", f.hz / 1_000_000, f.hz % 1_000_000));
     for k in [0, 1, 2, 4] {
         put(COLUMNS[k], Some(column(k).unwrap_or_default()));
     }
@@ -68,9 +71,9 @@ fn expected(text: &[u8], qso: &sys::Qso, table: &[u32], count: usize, room: usiz
     }
     put("FREQ", mhz(qso.freq));
     put("FREQ_RX", mhz(qso.freq_rx));
-    put("BAND_RX", column(8).filter(|_| qso.freq_rx.given));
-    let sign = if qso.dxcc.negative && qso.dxcc.size > 0 { "-" } else { "" };
-    put("DXCC", qso.dxcc.given.then(|| format!("{sign}{}", qso.dxcc.size)));
+    put("BAND_RX", column(8).filter(|_| qso.freq_rx.given == 1));
+    let sign = if qso.dxcc.negative == 1 && qso.dxcc.size > 0 { "-" } else { "" };
+    put("DXCC", (qso.dxcc.given == 1).then(|| format!("{sign}{}", qso.dxcc.size)));
     let mut before: Option<String> = None;
     for row in table.chunks_exact(5).take(count) {
         let (name, value) = (part(row[1], row[2])?, part(row[3], row[4])?);
@@ -183,7 +186,7 @@ fn random_qso(random: &mut Random) -> (Vec<u8>, sys::Qso, Vec<u32>) {
         };
     }
     let hertz = |random: &mut Random| sys::Hertz {
-        given: random.below(2) == 0,
+        given: flag(random),
         hz: match random.below(4) {
             0 => random.pick(&[0, 1, 999_999, 1_000_000, 8_589_934_591_999_999]),
             1 => random.next() % 8_589_934_592_000_000,
@@ -192,7 +195,7 @@ fn random_qso(random: &mut Random) -> (Vec<u8>, sys::Qso, Vec<u32>) {
     };
     (qso.freq, qso.freq_rx) = (hertz(random), hertz(random));
     let size = random.pick(&[0, 1, 7, 291, 1 << 63, u64::MAX]);
-    qso.dxcc = sys::Dxcc { given: random.below(2) == 0, negative: random.below(2) == 0, size };
+    qso.dxcc = sys::Dxcc { given: flag(random), negative: flag(random), size };
     let mut names = std::collections::BTreeMap::new();
     for _ in 0..random.pick(&[0, 1, 2, 5, 13, 20]) {
         let name = match random.below(5) {
@@ -258,7 +261,7 @@ fn rules(g: &mut Group) {
         if let Ok(out) = same(g, &text, qso, &table, count, room) {
             // and the original, which knows no limits and takes the extra fields that the rows say
             let Ok(()) = std::str::from_utf8(&text).map(|_| ()) else { continue };
-            if qso.dxcc.given && qso.dxcc.size > i64::MAX as u64 {
+            if qso.dxcc.given == 1 && qso.dxcc.size > i64::MAX as u64 {
                 continue;
             }
             let part = |row: &[u32], k: usize| {

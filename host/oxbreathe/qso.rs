@@ -167,24 +167,28 @@ impl<'a> Qso<'a> {
 
     /// The frequency.
     pub fn freq_hz(&self) -> Option<u64> {
-        self.raw.freq.given.then_some(self.raw.freq.hz)
+        hertz(self.raw.freq)
     }
 
     /// The frequency of the other station.
     pub fn freq_rx_hz(&self) -> Option<u64> {
-        self.raw.freq_rx.given.then_some(self.raw.freq_rx.hz)
+        hertz(self.raw.freq_rx)
     }
 
     /// The number of the DXCC entity.
     pub fn dxcc(&self) -> Option<i64> {
         let sys::Dxcc { given, negative, size } = self.raw.dxcc;
-        if given { with_sign(negative, size) } else { None }
+        if given == 1 { with_sign(negative == 1, size) } else { None }
     }
 
     /// The fields that are no columns, in byte order of their names in capitals.
     pub fn extra(&self) -> impl Iterator<Item = Field<'a>> + use<'a> {
         self.record.fields().filter(is_extra)
     }
+}
+
+fn hertz(frequency: sys::Hertz) -> Option<u64> {
+    (frequency.given == 1).then_some(frequency.hz)
 }
 
 fn is_extra(field: &Field) -> bool {

@@ -12,7 +12,7 @@ use Rattle.text.proofs.BoolLaws.{cases}
 use Rattle.tables.specs.declared.Place.{Place}
 use Rattle.confirmations.specs.declared.Answer.{Answer}
 use Rattle.plan.specs.Confirmed.{hasBit, given}
-use Rattle.entries.specs.Row.{oneIf}
+use Rattle.model.specs.Flags.{oneIf}
 use Rattle.tallies.specs.Tallies.{target, isNew, isOld, isLost, tallyWith, cardFor}
 use Rattle.tallies.specs.declared.Tally.{Tally}
 use Rattle.tallies.specs.declared.Target.{Target}

@@ -17,6 +17,7 @@ use Rattle.tables.specs.Place.{inText, part, value, bytes, orEmpty, spelled, no
 use Rattle.tables.specs.declared.Name.{Name}
 use Rattle.tables.specs.declared.Place.{Place}
 use Rattle.columns.specs.Columns.{call, qsoDate, timeOn, band, mode, submode, bandRx, rstSent, rstRcvd, gridsquare}
+use Rattle.model.specs.Flags.{isYes}
 use Rattle.model.specs.Contact.{placeOf}
 use Rattle.model.specs.declared.Dxcc.{Dxcc}
 use Rattle.model.specs.declared.Frequency.{Frequency}
@@ -78,31 +79,31 @@ module _ (text : List ℕ) (p : Place) (n : ℕ) (e : n ≡ length (bytes text p
   band-is h = rw (← e, ne-eqb n 0 h) refl
 
 module _ (p : Place) (f : Frequency) where
-  pub split-is : (r : Cell) → r ≡ wordsCell p → f .given ≡ true → r ≡ splitCell p f
+  pub split-is : (r : Cell) → r ≡ wordsCell p → f .given ≡ 1 → r ≡ splitCell p f
   unfolding splitCell
-  split-is r e h = rw h e
+  split-is r e h = rw (eq-eqb (f .given) 1 h) e
 
-  pub split-not : f .given ≡ false → Dropped ≡ splitCell p f
+  pub split-not : (f .given ≡ 1 → ⊥) → Dropped ≡ splitCell p f
   unfolding splitCell
-  split-not h = rw h refl
+  split-not h = rw (ne-eqb (f .given) 1 h) refl
 
 module _ (f : Frequency) where
-  pub megahertz-is : f .given ≡ true → Megahertz (f .hz) ≡ megahertzCell f
+  pub megahertz-is : f .given ≡ 1 → Megahertz (f .hz) ≡ megahertzCell f
   unfolding megahertzCell
-  megahertz-is h = rw h refl
+  megahertz-is h = rw (eq-eqb (f .given) 1 h) refl
 
-  pub megahertz-not : f .given ≡ false → Dropped ≡ megahertzCell f
+  pub megahertz-not : (f .given ≡ 1 → ⊥) → Dropped ≡ megahertzCell f
   unfolding megahertzCell
-  megahertz-not h = rw h refl
+  megahertz-not h = rw (ne-eqb (f .given) 1 h) refl
 
 module _ (d : Dxcc) where
-  pub entity-is : d .given ≡ true → Number (d .negative) (d .size) ≡ entityCell d
+  pub entity-is : d .given ≡ 1 → Number (isYes (d .negative)) (d .size) ≡ entityCell d
   unfolding entityCell
-  entity-is h = rw h refl
+  entity-is h = rw (eq-eqb (d .given) 1 h) refl
 
-  pub entity-not : d .given ≡ false → Dropped ≡ entityCell d
+  pub entity-not : (d .given ≡ 1 → ⊥) → Dropped ≡ entityCell d
   unfolding entityCell
-  entity-not h = rw h refl
+  entity-not h = rw (ne-eqb (d .given) 1 h) refl
 
 pub cells-are : (text : List ℕ) (q : Qso) (a b d f g h i j k : Cell) → a ≡ bandCell text (placeOf q band) → b ≡ splitCell (placeOf q bandRx) (q .«freq_rx»)
     → d ≡ entityCell (q .dxcc) → f ≡ megahertzCell (q .freq) → g ≡ megahertzCell (q .«freq_rx») → h ≡ wordsCell (placeOf q gridsquare)

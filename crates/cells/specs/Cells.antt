@@ -15,6 +15,7 @@ use Rattle.tables.specs.Modes.{modeNames}
 use Rattle.tables.specs.Place.{inText, bytes}
 use Rattle.tables.specs.declared.Place.{Place}
 use Rattle.columns.specs.Columns.{call, qsoDate, timeOn, band, mode, submode, bandRx, rstSent, rstRcvd, gridsquare}
+use Rattle.model.specs.Flags.{isYes}
 use Rattle.model.specs.Contact.{placeOf}
 use Rattle.model.specs.declared.Dxcc.{Dxcc}
 use Rattle.model.specs.declared.Frequency.{Frequency}
@@ -72,13 +73,13 @@ unfoldable pub bandCell : List ℕ → Place → Cell
 bandCell text p = pick (eqb (length (bytes text p)) 0) Dropped (Words p)
 
 unfoldable pub splitCell : Place → Frequency → Cell
-splitCell p f = pick (f .given) (wordsCell p) Dropped
+splitCell p f = pick (isYes (f .given)) (wordsCell p) Dropped
 
 unfoldable pub megahertzCell : Frequency → Cell
-megahertzCell f = pick (f .given) (Megahertz (f .hz)) Dropped
+megahertzCell f = pick (isYes (f .given)) (Megahertz (f .hz)) Dropped
 
 unfoldable pub entityCell : Dxcc → Cell
-entityCell d = pick (d .given) (Number (d .negative) (d .size)) Dropped
+entityCell d = pick (isYes (d .given)) (Number (isYes (d .negative)) (d .size)) Dropped
 
 -- the cells of a QSO, in the order of the names
 unfoldable pub cellsOf : List ℕ → Qso → List Cell

@@ -73,7 +73,7 @@ fn band_cell(text: &[u8], p: Place) -> Cell
 fn split_cell(p: Place, f: Frequency) -> Cell
     ensures { λ r. ⌜ r ≡ splitCell p f ⌝ }
 {
-    if f.given {
+    if f.given == 1 {
         words_cell(p)
     } else {
         Cell::Dropped
@@ -83,7 +83,7 @@ fn split_cell(p: Place, f: Frequency) -> Cell
 fn megahertz_cell(f: Frequency) -> Cell
     ensures { λ r. ⌜ r ≡ megahertzCell f ⌝ }
 {
-    if f.given {
+    if f.given == 1 {
         Cell::Megahertz(f.hz)
     } else {
         Cell::Dropped
@@ -93,9 +93,9 @@ fn megahertz_cell(f: Frequency) -> Cell
 fn entity_cell(d: Dxcc) -> Cell
     ensures { λ r. ⌜ r ≡ entityCell d ⌝ }
 {
-    if d.given {
+    if d.given == 1 {
         Cell::Number {
-            negative: d.negative,
+            negative: d.negative == 1,
             size: d.size,
         }
     } else {

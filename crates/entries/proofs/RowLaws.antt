@@ -12,6 +12,7 @@ use Rattle.tables.specs.Place.{bytes}
 use Rattle.times.specs.Moments.{momentOf}
 use Rattle.times.specs.declared.Moment.{Moment}
 use Rattle.columns.specs.Columns
+use Rattle.model.specs.Flags.{oneIf}
 use Rattle.model.specs.Contact.{placeOf, columnText}
 use Rattle.model.specs.Normal.{normalQso}
 use Rattle.model.specs.declared.Answer as model-answer
@@ -25,7 +26,7 @@ use Rattle.confirmations.specs.declared.Answer.{Answer}
 use Rattle.usable.specs.Reasons.{reasonIn}
 use Rattle.plan.specs.Entry.{isRefused, entryWith, entryOf}
 use Rattle.plan.specs.Fates.{bearsAny}
-use Rattle.entries.specs.Row.{Row, oneIf, rowOf, rowWith, entryRow}
+use Rattle.entries.specs.Row.{Row, rowOf, rowWith, entryRow}
 use Rattle.entries.specs.Filled.{Says, Answers}
 use Rattle.entries.specs.Walked.{judgedAs, judgedOf}
 use Rattle.entries.specs.declared.Judged.{Judged}

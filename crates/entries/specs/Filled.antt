@@ -12,7 +12,8 @@ use Rattle.writer.specs.Rows.{rowsFrom}
 use Rattle.confirmations.specs.Confirmations.{answersOf}
 use Rattle.plan.specs.Entry.{Entry, noEntry, entriesOf}
 use Rattle.plan.specs.Fates.{bearsAny}
-use Rattle.entries.specs.Row.{Row, callIn, modeIn, bandIn, dateIn, momentIn, fileCode, oneIf}
+use Rattle.model.specs.Flags.{oneIf}
+use Rattle.entries.specs.Row.{Row, callIn, modeIn, bandIn, dateIn, momentIn, fileCode}
 
 -- a text was read into the table: n records, in so many rows
 pub record ReadInto (text table : List ℕ) (n : ℕ) : Type 0 where

@@ -9,13 +9,13 @@ use Prim.Native.Nat.{ℕ, zero, suc}
 use mathlib.Core.Bool.{Bool}
 use mathlib.Core.List.{List, [], _∷_}
 use lib.ListN.{getD, replicate, set}
-use Rattle.text.specs.Pick.{pick}
 use Rattle.text.specs.Space.{trimmed}
 use Rattle.tables.specs.Place.{place}
 use Rattle.tables.specs.declared.Place.{Place}
 use Rattle.times.specs.Moments.{momentOf}
 use Rattle.times.specs.declared.Moment.{Moment}
 use Rattle.columns.specs.Columns
+use Rattle.model.specs.Flags.{oneIf}
 use Rattle.model.specs.Contact.{placeOf, columnText}
 use Rattle.model.specs.Normal.{normalQso}
 use Rattle.model.specs.declared.Qso.{Qso}
@@ -66,9 +66,6 @@ momentIn r = momentFrom (getD r 17 0) (joined (getD r 18 0) (getD r 19 0))
 -- a number that records of one key in the file share
 unfoldable pub fileCode : List ℕ → List ℕ → List ℕ → ℕ
 fileCode call mode band = codeOf (trimmed call) (trimmed mode) (trimmed band)
-
-abbrev pub oneIf : Bool → ℕ
-oneIf b = pick b 1 0
 
 unfoldable pub rowOf : ℕ → ℕ → Place → Place → Place → Place → Moment → ℕ → ℕ → Bool → Row
 rowOf reason code call mode band date moment first count bears =

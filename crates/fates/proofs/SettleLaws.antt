@@ -25,7 +25,8 @@ use Rattle.search.proofs.FindLaws.{near-within}
 use Rattle.plan.specs.Entry.{Entry, noEntry}
 use Rattle.plan.specs.Fates.{bearsAny, repeats, repeated, fateAt, fatesTo}
 use Rattle.plan.proofs.FateLaws.{fates-many}
-use Rattle.entries.specs.Row.{Row, oneIf}
+use Rattle.model.specs.Flags.{oneIf}
+use Rattle.entries.specs.Row.{Row}
 use Rattle.entries.specs.Filled.{Said, Bare}
 use Rattle.infile.specs.Infile.{alike, repeatedIn, codeIn, Chained}
 use Rattle.infile.proofs.LinkLaws.{chained-none}

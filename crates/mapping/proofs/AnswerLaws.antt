@@ -26,6 +26,7 @@ use Rattle.writer.specs.Rows.{rowsFrom}
 use Rattle.tables.specs.Place.{absent, part, isAbsent}
 use Rattle.tables.specs.declared.Place.{Place}
 use Rattle.columns.specs.Columns.{freq, freqRx, dxcc}
+use Rattle.model.specs.Flags.{oneIf}
 use Rattle.model.specs.Normal.{normalQso}
 use Rattle.model.specs.Answer.{noFrequency, noDxcc, emptyQso, accepted, refused}
 use Rattle.model.specs.declared.Frequency.{Frequency}
@@ -34,10 +35,10 @@ use Rattle.model.specs.declared.Qso.{Qso}
 use Rattle.model.specs.declared.Answer.{Answer}
 use Rattle.mapping.specs.Mapping.{columnsOf, isOutside, frequencyOf, dxccOf, dxccAt, qsoWith, answerWith, answerOver, mapped, isRecord, mappedTo, withNormal, normalTo}
 
-pub number-is : (s : Signed) (n : Bool) (size : ℕ) → s ≡ Of n size → _≡_ {A = Dxcc} (record { given = true; negative = n; size = size }) (dxccOf s)
-number-is s n size e = rw e refl
+pub number-is : (s : Signed) (n : Bool) (size m : ℕ) → s ≡ Of n size → m ≡ oneIf n → _≡_ {A = Dxcc} (record { given = 1; negative = m; size = size }) (dxccOf s)
+number-is s n size m e em = rw (e, em) refl
 
-pub hertz-is : (h : Hz) (n : ℕ) → h ≡ Is n → _≡_ {A = Frequency} (record { given = true; hz = n }) (frequencyOf h)
+pub hertz-is : (h : Hz) (n : ℕ) → h ≡ Is n → _≡_ {A = Frequency} (record { given = 1; hz = n }) (frequencyOf h)
 hertz-is h n e = rw e refl
 
 -- ---- nothing is read of a column that is absent

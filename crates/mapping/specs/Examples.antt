@@ -43,7 +43,7 @@ three-rows : mappedTo text table 0 3
       columns = set (set noColumns band (stands 4 5)) dxcc (stands 13 2);
       freq = noFrequency;
       «freq_rx» = noFrequency;
-      dxcc = record { given = true; negative = true; size = 7 };
+      dxcc = record { given = 1; negative = 1; size = 7 };
     })
 unfolding mappedTo isRecord isRow rises placed sound utf8 validUpTo charLen longChar second3 second4 lead orderRaised mapped columnsOf columnNames sameRaised raised answerOver answerWith part readHertz numberIn unsignedNumber isInfinity isNan decimalOf wholePart fractionPart afterDecimal pointed unsigned negative allDigits numberOf qsoWith dxccAt signedOf leads unsignedOf digitsOf digitsAfter aboveZero belowZero trimmed trimStart trimEnd spaceLen spaceBack width space1 space2 space3 space80
 three-rows = refl

@@ -20,6 +20,7 @@ use Rattle.writer.specs.Rows.{rowsFrom}
 use Rattle.tables.specs.Place.{absent, valuePlace, part}
 use Rattle.tables.specs.declared.Place.{Place}
 use Rattle.columns.specs.Columns.{columnNames, isColumn, freq, freqRx, dxcc}
+use Rattle.model.specs.Flags.{oneIf}
 use Rattle.model.specs.Normal.{normalQso}
 use Rattle.model.specs.Answer.{noFrequency, noDxcc, emptyQso, accepted, refused}
 use Rattle.model.specs.declared.Frequency.{Frequency}
@@ -52,11 +53,11 @@ isOutside Outside = true
 
 abbrev pub frequencyOf : Hz → Frequency
 frequencyOf Absent = noFrequency
-frequencyOf (Is n) = record { given = true; hz = n }
+frequencyOf (Is n) = record { given = 1; hz = n }
 frequencyOf Outside = noFrequency
 
 abbrev pub dxccOf : Signed → Dxcc
-dxccOf (Of negative size) = record { given = true; negative = negative; size = size }
+dxccOf (Of negative size) = record { given = 1; negative = oneIf negative; size = size }
 dxccOf Bad = noDxcc
 
 unfoldable pub dxccAt : List ℕ → List Place → Dxcc

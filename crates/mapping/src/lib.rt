@@ -59,7 +59,7 @@ fn frequency_of(hz: Hz) -> Frequency
 {
     match hz {
         Hz::Absent => model::no_frequency(),
-        Hz::Is(n) => Frequency { given: true, hz: n },
+        Hz::Is(n) => Frequency { given: 1, hz: n },
         Hz::Outside => model::no_frequency(),
     }
 }
@@ -69,8 +69,8 @@ fn dxcc_of(number: Signed) -> Dxcc
 {
     match number {
         Signed::Of { negative, size } => Dxcc {
-            given: true,
-            negative: negative,
+            given: 1,
+            negative: model::one_if(negative),
             size: size,
         },
         Signed::Bad => model::no_dxcc(),

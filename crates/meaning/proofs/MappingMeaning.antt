@@ -87,7 +87,8 @@ hertz-said (Is n) = refl
 hertz-said Outside = refl
 
 entity-said : (s : Signed) → entity (dxccOf s) ≡ entityRead s
-entity-said (Of n k) = refl
+entity-said (Of true k) = refl
+entity-said (Of false k) = refl
 entity-said Bad = refl
 
 module _ (text : List ℕ) where

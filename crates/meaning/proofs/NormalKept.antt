@@ -32,7 +32,8 @@ use Rattle.trip.proofs.Trimmed.{trimmed-utf8}
 use Rattle.refusals.specs.declared.Refusal.the-variants.{TooLong, BadRow}
 use Rattle.model.specs.Contact.{placeOf}
 use Rattle.model.specs.Normal.{bandAt, knownBand, blank, normalBandPlace, normalBandRxPlace, normalColumns, normalQso}
-use Rattle.model.specs.Answer.{isPart, isEntry, isFit, areFit, isQso, accepted, refused, normalizedTo}
+use Rattle.model.specs.Flags.{isYes}
+use Rattle.model.specs.Answer.{isPart, isEntry, isFit, areFit, isPlaced, isFlagged, isQso, accepted, refused, normalizedTo}
 use Rattle.model.specs.declared.Qso.{Qso}
 use Rattle.model.specs.declared.Frequency.{Frequency}
 use Rattle.model.specs.declared.Dxcc.{Dxcc}
@@ -206,7 +207,7 @@ module _ (text : List ℕ) where
 
   at-fit : (f : Frequency) → isFit text (bandAt f) ≡ true
   unfolding bandAt
-  at-fit f = pick-fit (f .given) (bandPlace (bandFor (f .hz))) absent (held-fit (f .hz) (bandFor (f .hz)) refl) no-place-fit
+  at-fit f = pick-fit (isYes (f .given)) (bandPlace (bandFor (f .hz))) absent (held-fit (f .hz) (bandFor (f .hz)) refl) no-place-fit
 
   named-fit : (p : Place) → isFit text (knownBand text p) ≡ true
   unfolding knownBand
@@ -251,13 +252,21 @@ set-elsewhere (q ∷ ps) (suc j) (suc k) p n = set-elsewhere ps j k p (λ e. n (
 
 -- the theorem: a QSO of the text is still one
 module _ (text : List ℕ) (q : Qso) (e : isQso text q ≡ true) where
-  fits : areFit text (q .columns) ≡ true
+  flags : isFlagged q ≡ true
   unfolding isQso
-  fits = both-left (areFit text (q .columns)) (both (modal (placeOf q mode)) (modal (placeOf q submode))) e
+  flags = both-left (isFlagged q) (isPlaced text q) e
+
+  placed : isPlaced text q ≡ true
+  unfolding isQso
+  placed = both-right (isFlagged q) (isPlaced text q) e
+
+  fits : areFit text (q .columns) ≡ true
+  unfolding isPlaced
+  fits = both-left (areFit text (q .columns)) (both (modal (placeOf q mode)) (modal (placeOf q submode))) placed
 
   modals : both (modal (placeOf q mode)) (modal (placeOf q submode)) ≡ true
-  unfolding isQso
-  modals = both-right (areFit text (q .columns)) (both (modal (placeOf q mode)) (modal (placeOf q submode))) e
+  unfolding isPlaced
+  modals = both-right (areFit text (q .columns)) (both (modal (placeOf q mode)) (modal (placeOf q submode))) placed
 
   abbrev pair : ModePair
   pair = normalPlaces text (placeOf q mode) text (placeOf q submode)
@@ -299,11 +308,20 @@ module _ (text : List ℕ) (q : Qso) (e : isQso text q ≡ true) where
       (set-here modal with-mode submode (pair .submode) (both-sound .1 .1)
       (rw (set-elsewhere (q .columns) submode mode (pair .mode) (λ z. omega arith)) (both-right (modal (placeOf q mode)) (modal (placeOf q submode)) modals)))
 
-  pub normal-kept : isQso text (normalQso text q) ≡ true
-  unfolding isQso normalQso normalColumns
-  normal-kept =
+  -- normalising touches no flag
+  flags-kept : isFlagged (normalQso text q) ≡ true
+  unfolding isFlagged normalQso
+  flags-kept = flags
+
+  places-kept : isPlaced text (normalQso text q) ≡ true
+  unfolding isPlaced normalQso normalColumns
+  places-kept =
       both-true (areFit text with-band-rx) (both (modal (getD with-band-rx mode absent)) (modal (getD with-band-rx submode absent))) all-fit
       (both-true (modal (getD with-band-rx mode absent)) (modal (getD with-band-rx submode absent)) mode-kept submode-kept)
+
+  pub normal-kept : isQso text (normalQso text q) ≡ true
+  unfolding isQso
+  normal-kept = both-true (isFlagged (normalQso text q)) (isPlaced text (normalQso text q)) flags-kept places-kept
 
 -- ---- twice is once, place by place
 empty-part : (text : List ℕ) (k a n : ℕ) → isEmpty (place k a n) ≡ true → part text (place k a n) ≡ []
@@ -492,7 +510,7 @@ settles g _ p e (known k) h = ap g e ∙ h k ∙ sym e
 module _ (text : List ℕ) (f : Frequency) where
   at-known : Known (bandAt f)
   unfolding bandAt
-  at-known = known-pick (f .given) (bandPlace (bandFor (f .hz))) absent (known-place (bandFor (f .hz))) unknown
+  at-known = known-pick (isYes (f .given)) (bandPlace (bandFor (f .hz))) absent (known-place (bandFor (f .hz))) unknown
 
   named-known : (p : Place) → Known (knownBand text p)
   unfolding knownBand

@@ -30,7 +30,8 @@ use Rattle.columns.proofs.LaidLaws.{found-within}
 use Rattle.adif.specs.Grammar.{Field}
 use Rattle.model.specs.Contact.{Contact, contact, hertz}
 use Rattle.model.specs.Normal.{bandName, bandOf, canonical, isBlank, normalBand, normalBandRx, normalContact, bandAt, knownBand, blank, normalBandPlace, normalBandRxPlace, normalColumns, normalQso}
-use Rattle.model.specs.Answer.{isEntry, isFit, areFit, isQso}
+use Rattle.model.specs.Flags.{isYes}
+use Rattle.model.specs.Answer.{isEntry, isFit, areFit, isPlaced, isFlagged, isQso}
 use Rattle.model.specs.declared.Frequency.{Frequency}
 use Rattle.model.specs.declared.Dxcc.{Dxcc}
 use Rattle.model.specs.declared.Qso.{Qso}
@@ -149,7 +150,7 @@ module _ (text : List ℕ) where
 
   derived-bytes : (p : Place) (f : Frequency) → bytes text (orElse (bandAt f) p) ≡ otherwise (bandOf (hertz f)) (bytes text p)
   unfolding bandAt
-  derived-bytes p f = by (f .given)
+  derived-bytes p f = by (isYes (f .given))
     where
       by : (t : Bool) → bytes text (orElse (pick t (bandPlace (bandFor (f .hz))) absent) p) ≡ otherwise (bandOf (pick t (some (f .hz)) none)) (bytes text p)
       by true = found-or-bytes (bandFor (f .hz)) p (held-found (f .hz))
@@ -174,7 +175,7 @@ module _ (text : List ℕ) where
   -- and that of the receiver
   derived-absent : (a n : ℕ) (f : Frequency) → value text (orElse (bandAt f) (place 0 a n)) ≡ bandOf (hertz f)
   unfolding bandAt value
-  derived-absent a n f = by (f .given)
+  derived-absent a n f = by (isYes (f .given))
     where
       found : (o : Found) → value text (orElse (bandPlace o) (place 0 a n)) ≡ bandName o
       found (At k) = refl
@@ -198,13 +199,17 @@ module _ (text : List ℕ) (c0 c1 c2 c3 c4 c5 c6 c7 c8 c9 c10 c11 c12 : Place) (
   given = record { columns = c0 ∷ c1 ∷ c2 ∷ c3 ∷ c4 ∷ c5 ∷ c6 ∷ c7 ∷ c8 ∷ c9 ∷ c10 ∷ c11 ∷ c12 ∷ []; freq = f; «freq_rx» = g; dxcc = d }
 
   module _ (e : isQso text given ≡ true) where
-    all : areFit text (c0 ∷ c1 ∷ c2 ∷ c3 ∷ c4 ∷ c5 ∷ c6 ∷ c7 ∷ c8 ∷ c9 ∷ c10 ∷ c11 ∷ c12 ∷ []) ≡ true
+    placed : isPlaced text given ≡ true
     unfolding isQso
-    all = both-left (areFit text (c0 ∷ c1 ∷ c2 ∷ c3 ∷ c4 ∷ c5 ∷ c6 ∷ c7 ∷ c8 ∷ c9 ∷ c10 ∷ c11 ∷ c12 ∷ [])) (both (modal c4) (modal c5)) e
+    placed = both-right (isFlagged given) (isPlaced text given) e
+
+    all : areFit text (c0 ∷ c1 ∷ c2 ∷ c3 ∷ c4 ∷ c5 ∷ c6 ∷ c7 ∷ c8 ∷ c9 ∷ c10 ∷ c11 ∷ c12 ∷ []) ≡ true
+    unfolding isPlaced
+    all = both-left (areFit text (c0 ∷ c1 ∷ c2 ∷ c3 ∷ c4 ∷ c5 ∷ c6 ∷ c7 ∷ c8 ∷ c9 ∷ c10 ∷ c11 ∷ c12 ∷ [])) (both (modal c4) (modal c5)) placed
 
     modals : both (modal c4) (modal c5) ≡ true
-    unfolding isQso
-    modals = both-right (areFit text (c0 ∷ c1 ∷ c2 ∷ c3 ∷ c4 ∷ c5 ∷ c6 ∷ c7 ∷ c8 ∷ c9 ∷ c10 ∷ c11 ∷ c12 ∷ [])) (both (modal c4) (modal c5)) e
+    unfolding isPlaced
+    modals = both-right (areFit text (c0 ∷ c1 ∷ c2 ∷ c3 ∷ c4 ∷ c5 ∷ c6 ∷ c7 ∷ c8 ∷ c9 ∷ c10 ∷ c11 ∷ c12 ∷ [])) (both (modal c4) (modal c5)) placed
 
     mode-fits : modal c4 ≡ true
     mode-fits = both-left (modal c4) (modal c5) modals

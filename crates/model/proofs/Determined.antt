@@ -1,6 +1,8 @@
 -- Each public call's promise is met by one answer. Assumes nothing.
 use mathlib.Core.Path.{sym, _∙_}
 use Rattle.text.proofs.Once.{Once}
+use Rattle.model.proofs.one_if.Reads as one-if
+use Rattle.model.proofs.one_if.Kinds as one-if-kinds
 use Rattle.model.proofs.no_frequency.Reads as no-frequency
 use Rattle.model.proofs.no_frequency.Kinds as no-frequency-kinds
 use Rattle.model.proofs.no_dxcc.Reads as no-dxcc
@@ -19,6 +21,9 @@ use Rattle.model.proofs.Qso.normalize.Reads as normalize
 use Rattle.model.proofs.Qso.normalize.Kinds as normalize-kinds
 use Rattle.model.proofs.normalized.Reads as normalized
 use Rattle.model.proofs.normalized.Kinds as normalized-kinds
+
+one-if-once : Once 0 one-if-kinds.ps one-if-kinds.r one-if.Post
+one-if-once κs a x y d e p q = p ∙ sym q
 
 no-frequency-once : Once 0 no-frequency-kinds.ps no-frequency-kinds.r no-frequency.Post
 no-frequency-once κs a x y d e p q = p ∙ sym q

@@ -11,7 +11,7 @@ use lib.Seq.{drop-cons}
 use Rattle.text.specs.Pick.{pick, both, either}
 use Rattle.text.specs.Space.{trimmed}
 use Rattle.text.specs.Utf8.{utf8}
-use borrow.Author.Tests.{le-leb, lt-leb}
+use borrow.Author.Tests.{eq-eqb, ne-eqb, le-leb, lt-leb}
 use Rattle.refusals.specs.declared.Refusal.the-variants.{TooLong, BadRow}
 use Rattle.tables.specs.Bands.{bands, bandNames, bandFor, bandNamed}
 use Rattle.tables.specs.Modes.{modes, modeNames}
@@ -22,7 +22,7 @@ use Rattle.normalize.specs.declared.ModePair.{ModePair}
 use Rattle.columns.specs.Columns.{band, mode, submode, bandRx}
 use Rattle.model.specs.Contact.{placeOf}
 use Rattle.model.specs.Normal.{bandAt, knownBand, blank, isBlank, normalBandPlace, normalBandRxPlace, normalColumns, normalQso}
-use Rattle.model.specs.Answer.{isPart, isEntry, isFit, areFit, isQso, noFrequency, noDxcc, emptyQso, accepted, refused, normalizedTo}
+use Rattle.model.specs.Answer.{isPart, isEntry, isFit, areFit, isPlaced, isFlagged, isQso, noFrequency, noDxcc, emptyQso, accepted, refused, normalizedTo}
 use Rattle.model.specs.declared.Frequency.{Frequency}
 use Rattle.model.specs.declared.Answer.{Answer}
 use Rattle.model.specs.declared.Dxcc.{Dxcc}
@@ -77,10 +77,19 @@ module _ (text : List ℕ) (ps : List Place) (i : ℕ) (l : length ps ≡ 13) (e
       let k : length ps ≤ i = omega arith in
       rw drop-of-length-le at e
 
-pub is-qso : (text : List ℕ) (q : Qso) (f m s b r : Bool) → f ≡ areFit text (q .columns) → m ≡ modal (placeOf q mode) → s ≡ modal (placeOf q submode)
-    → b ≡ both m s → r ≡ both f b → r ≡ isQso text q
+pub is-placed : (text : List ℕ) (q : Qso) (f m s b r : Bool) → f ≡ areFit text (q .columns) → m ≡ modal (placeOf q mode) → s ≡ modal (placeOf q submode)
+    → b ≡ both m s → r ≡ both f b → r ≡ isPlaced text q
+unfolding isPlaced
+is-placed text q f m s b r ef em es eb er = rw (er, ef, eb, em, es) refl
+
+pub is-flagged : (q : Qso) (a b r : Bool) → a ≡ both (leb (q .freq .given) 1) (leb (q .«freq_rx» .given) 1) → b ≡ both (leb (q .dxcc .given) 1) (leb (q .dxcc .negative) 1)
+    → r ≡ both a b → r ≡ isFlagged q
+unfolding isFlagged
+is-flagged q a b r ea eb er = rw (er, ea, eb) refl
+
+pub is-qso : (text : List ℕ) (q : Qso) (f p r : Bool) → f ≡ isFlagged q → p ≡ isPlaced text q → r ≡ both f p → r ≡ isQso text q
 unfolding isQso
-is-qso text q f m s b r ef em es eb er = rw (er, ef, eb, em, es) refl
+is-qso text q f p r ef ep er = rw (er, ef, ep) refl
 
 pub empty-qso : (p : Place) (f g : Frequency) (d : Dxcc) → p ≡ absent → f ≡ noFrequency → g ≡ noFrequency → d ≡ noDxcc
     → _≡_ {A = Qso} (record { columns = replicate 13 p; freq = f; «freq_rx» = g; dxcc = d }) emptyQso
@@ -88,13 +97,13 @@ empty-qso p f g d ep ef eg ed = rw (ep, ef, eg, ed) refl
 
 -- ---- the bands
 module _ (f : Frequency) (p : Place) where
-  pub band-given : f .given ≡ true → p ≡ bandPlace (bandFor (f .hz)) → p ≡ bandAt f
+  pub band-given : f .given ≡ 1 → p ≡ bandPlace (bandFor (f .hz)) → p ≡ bandAt f
   unfolding bandAt
-  band-given h e = rw h e
+  band-given h e = rw (eq-eqb (f .given) 1 h) e
 
-  pub band-none : f .given ≡ false → p ≡ absent → p ≡ bandAt f
+  pub band-none : (f .given ≡ 1 → ⊥) → p ≡ absent → p ≡ bandAt f
   unfolding bandAt
-  band-none h e = rw h e
+  band-none h e = rw (ne-eqb (f .given) 1 h) e
 
 pub known-band : (text s : List ℕ) (p r : Place) → s ≡ part text p → r ≡ bandPlace (bandNamed s) → r ≡ knownBand text p
 unfolding knownBand

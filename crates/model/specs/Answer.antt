@@ -15,6 +15,7 @@ use Rattle.tables.specs.Place.{absent, part, inText, isAbsent}
 use Rattle.tables.specs.declared.Place.{Place}
 use Rattle.normalize.specs.Normal.{modal}
 use Rattle.columns.specs.Columns.{mode, submode}
+use Rattle.model.specs.Flags.{isFlag}
 use Rattle.model.specs.Contact.{placeOf}
 use Rattle.model.specs.Normal.{normalQso}
 use Rattle.model.specs.declared.Qso.{Qso}
@@ -39,16 +40,26 @@ abbrev pub areFit : List ℕ → List Place → Bool
 areFit text [] = true
 areFit text (p ∷ ps) = both (isFit text p) (areFit text ps)
 
--- 11: every column stands for a text, and the mode and the submode are no entries of the bands
+-- every column stands for a text, and the mode and the submode are no entries of the bands
+unfoldable pub isPlaced : List ℕ → Qso → Bool
+isPlaced text q = both (areFit text (q .columns)) (both (modal (placeOf q mode)) (modal (placeOf q submode)))
+
+-- each flag is 0 or 1, also one that nothing else looks at
+unfoldable pub isFlagged : Qso → Bool
+isFlagged q =
+    both (both (isFlag (q .freq .given)) (isFlag (q .«freq_rx» .given)))
+    (both (isFlag (q .dxcc .given)) (isFlag (q .dxcc .negative)))
+
+-- else 11
 unfoldable pub isQso : List ℕ → Qso → Bool
-isQso text q = both (areFit text (q .columns)) (both (modal (placeOf q mode)) (modal (placeOf q submode)))
+isQso text q = both (isFlagged q) (isPlaced text q)
 
 -- ---- QSOs made
 abbrev pub noFrequency : Frequency
-noFrequency = record { given = false; hz = 0 }
+noFrequency = record { given = 0; hz = 0 }
 
 abbrev pub noDxcc : Dxcc
-noDxcc = record { given = false; negative = false; size = 0 }
+noDxcc = record { given = 0; negative = 0; size = 0 }
 
 abbrev pub noColumns : List Place
 noColumns = replicate 13 absent

@@ -10,6 +10,7 @@ use Rattle.adif.specs.Grammar.{Field}
 use Rattle.tables.specs.Place.{absent, value, bytes}
 use Rattle.tables.specs.declared.Place.{Place}
 use Rattle.columns.specs.Columns
+use Rattle.model.specs.Flags.{isYes}
 use Rattle.model.specs.declared.Qso.{Qso}
 use Rattle.model.specs.declared.Frequency.{Frequency}
 use Rattle.model.specs.declared.Dxcc.{Dxcc}
@@ -44,7 +45,7 @@ columnText text q k = bytes text (placeOf q k)
 
 -- a frequency in hertz
 abbrev pub hertz : Frequency → Option ℕ
-hertz f = pick (f .given) (some (f .hz)) none
+hertz f = pick (isYes (f .given)) (some (f .hz)) none
 
 -- a signed number by its size; there is no minus zero
 abbrev pub signed : Bool → ℕ → ℤ
@@ -53,7 +54,7 @@ signed true zero = pos 0
 signed true (suc n) = negsuc n
 
 abbrev pub entity : Dxcc → Option ℤ
-entity d = pick (d .given) (some (signed (d .negative) (d .size))) none
+entity d = pick (isYes (d .given)) (some (signed (isYes (d .negative)) (d .size))) none
 
 unfoldable pub contact : List ℕ → Qso → List Field → Contact
 contact text q extra = record {

@@ -13,6 +13,7 @@ use Rattle.text.specs.Walk.{lead}
 use Rattle.letters.specs.Capitals.{raised}
 use Rattle.letters.specs.Same.{sameRaised}
 use Rattle.refusals.specs.declared.Refusal.the-variants.{BadRow}
+use Rattle.refusals.specs.declared.Verdict.the-variants.{Accepted}
 use Rattle.tables.specs.Table.{named}
 use Rattle.tables.specs.Bands.{bands, bandNames, bandFor, bandNamed}
 use Rattle.tables.specs.Modes.{modes, modeNames}
@@ -22,7 +23,7 @@ use Rattle.normalize.specs.Normal.{parentEntry, aliasEntry, aliasedPlace, split
 use Rattle.columns.specs.Columns.{band, mode, bandRx}
 use Rattle.model.specs.Contact.{contact, entity}
 use Rattle.model.specs.Normal.{isBlank, canonical, normalBand, normalBandRx, bandAt, knownBand, blank, normalBandPlace, normalBandRxPlace, normalColumns, normalQso}
-use Rattle.model.specs.Answer.{isPart, isEntry, isFit, isQso, noColumns, noFrequency, noDxcc, accepted, refused, normalizedTo}
+use Rattle.model.specs.Answer.{isPart, isEntry, isFit, isFlagged, isPlaced, isQso, noColumns, noFrequency, noDxcc, accepted, refused, normalizedTo}
 use Rattle.model.specs.declared.Qso.{Qso}
 
 abbrev text : List ℕ
@@ -33,7 +34,7 @@ abbrev before : Qso
 before = record {
   columns = set (set noColumns band (stands 0 4)) mode (stands 5 3);
   freq = noFrequency;
-  «freq_rx» = record { given = true; hz = 14074000 };
+  «freq_rx» = record { given = 1; hz = 14074000 };
   dxcc = noDxcc;
 }
 
@@ -42,12 +43,12 @@ abbrev after : Qso
 after = record {
   columns = set (set (set noColumns band (bandEntry 5)) mode (modeEntry 0)) bandRx (bandEntry 7);
   freq = noFrequency;
-  «freq_rx» = record { given = true; hz = 14074000 };
+  «freq_rx» = record { given = 1; hz = 14074000 };
   dxcc = noDxcc;
 }
 
 normalized : normalizedTo text before ≡ accepted after
-unfolding normalizedTo isQso isFit isPart isEntry modal utf8 validUpTo charLen longChar second3 second4 lead bandNames bands modeNames modes normalQso normalColumns normalPlaces tidy part trimmed trimStart trimEnd spaceLen spaceBack width space1 space2 space3 space80 splitPlace parentEntry aliasEntry aliasedPlace named submodes aliases sameRaised raised normalBandPlace blank isBlank knownBand bandNamed normalBandRxPlace bandAt bandFor
+unfolding normalizedTo isQso isFlagged isPlaced isFit isPart isEntry modal utf8 validUpTo charLen longChar second3 second4 lead bandNames bands modeNames modes normalQso normalColumns normalPlaces tidy part trimmed trimStart trimEnd spaceLen spaceBack width space1 space2 space3 space80 splitPlace parentEntry aliasEntry aliasedPlace named submodes aliases sameRaised raised normalBandPlace blank isBlank knownBand bandNamed normalBandRxPlace bandAt bandFor
 normalized = refl
 
 -- what it says
@@ -71,8 +72,37 @@ not-derived = refl
 -- an entry that the table of bands has not comes back unchanged with 11
 outside : normalizedTo text (record { columns = set noColumns band (bandEntry 19); freq = noFrequency; «freq_rx» = noFrequency; dxcc = noDxcc })
     ≡ refused BadRow (record { columns = set noColumns band (bandEntry 19); freq = noFrequency; «freq_rx» = noFrequency; dxcc = noDxcc })
-unfolding normalizedTo isQso isFit isPart isEntry bandNames bands modeNames modes
+unfolding normalizedTo isQso isFlagged isPlaced isFit isPart isEntry bandNames bands modeNames modes
 outside = refl
 
-minus-seven : entity (record { given = true; negative = true; size = 7 }) ≡ some (negsuc 6)
+minus-seven : entity (record { given = 1; negative = 1; size = 7 }) ≡ some (negsuc 6)
 minus-seven = refl
+
+-- a flag that is neither 0 nor 1, each by itself: such a QSO comes back unchanged with 11, and no frequency is derived from it
+abbrev flagged : ℕ → ℕ → ℕ → ℕ → Qso
+flagged freq split given negative = record {
+  columns = noColumns;
+  freq = record { given = freq; hz = 7100000 };
+  «freq_rx» = record { given = split; hz = 7100000 };
+  dxcc = record { given = given; negative = negative; size = 0 };
+}
+
+flags-taken : normalizedTo text (flagged 0 0 0 1) .verdict ≡ Accepted
+unfolding normalizedTo isQso isFlagged isPlaced isFit isEntry modal
+flags-taken = refl
+
+freq-flag : normalizedTo text (flagged 2 0 0 0) ≡ refused BadRow (flagged 2 0 0 0)
+unfolding normalizedTo isQso isFlagged
+freq-flag = refl
+
+freq-rx-flag : normalizedTo text (flagged 0 3 0 0) ≡ refused BadRow (flagged 0 3 0 0)
+unfolding normalizedTo isQso isFlagged
+freq-rx-flag = refl
+
+dxcc-flag : normalizedTo text (flagged 0 0 4294967295 0) ≡ refused BadRow (flagged 0 0 4294967295 0)
+unfolding normalizedTo isQso isFlagged
+dxcc-flag = refl
+
+negative-flag : normalizedTo text (flagged 0 0 0 2) ≡ refused BadRow (flagged 0 0 0 2)
+unfolding normalizedTo isQso isFlagged
+negative-flag = refl

@@ -1,3 +1,4 @@
+pub mod Flags
 pub mod Contact
 pub mod Normal
 pub mod Answer

@@ -15,6 +15,7 @@ use Rattle.tables.specs.declared.Found.the-variants.{At, Nothing}
 use Rattle.tables.specs.declared.Place.{Place}
 use Rattle.normalize.specs.Normal.{otherwise, normal, normalPlaces}
 use Rattle.columns.specs.Columns.{band, mode, submode, bandRx}
+use Rattle.model.specs.Flags.{isYes}
 use Rattle.model.specs.Contact.{Contact, placeOf}
 use Rattle.model.specs.declared.Qso.{Qso}
 use Rattle.model.specs.declared.Frequency.{Frequency}
@@ -69,7 +70,7 @@ normalContact c = record {
 
 -- the entry of the band of a frequency, or absent
 unfoldable pub bandAt : Frequency → Place
-bandAt f = pick (f .given) (bandPlace (bandFor (f .hz))) absent
+bandAt f = pick (isYes (f .given)) (bandPlace (bandFor (f .hz))) absent
 
 -- the entry of the band that a column names, or absent
 unfoldable pub knownBand : List ℕ → Place → Place

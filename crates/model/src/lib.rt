@@ -3,8 +3,9 @@ ghost use mathlib.Core.Path.{_≡_};
 ghost use Prim.Native.Nat.{_≤_};
 ghost use lib.ListN.{length};
 ghost use Rattle.normalize.specs.Normal.{modal};
+ghost use Rattle.model.specs.Flags.{oneIf};
 ghost use Rattle.model.specs.Normal.{bandAt, knownBand, blank, normalBandPlace, normalBandRxPlace, normalQso};
-ghost use Rattle.model.specs.Answer.{isPart, isEntry, isFit, areFit, isQso, noFrequency, noDxcc, emptyQso, accepted, refused, normalizedTo};
+ghost use Rattle.model.specs.Answer.{isPart, isEntry, isFit, areFit, isPlaced, isFlagged, isQso, noFrequency, noDxcc, emptyQso, accepted, refused, normalizedTo};
 use columns::BAND;
 use columns::BAND_RX;
 use columns::MODE;
@@ -15,18 +16,19 @@ use refusals::Verdict;
 use tables::Place;
 use tables::places;
 
-// A frequency in hertz, if one is given.
+// A frequency in hertz, if one is given. Flags are numbers, 0 or 1, here and below: who calls fills them, and in the place of a `bool` could
+// stand a byte that is neither.
 #[repr(C)]
 pub struct Frequency {
-    pub given: bool,
+    pub given: u32,
     pub hz: u64,
 }
 
 // The number of the DXCC entity by its size, if one is given.
 #[repr(C)]
 pub struct Dxcc {
-    pub given: bool,
-    pub negative: bool,
+    pub given: u32,
+    pub negative: u32,
     pub size: u64,
 }
 
@@ -45,21 +47,25 @@ pub struct Answer {
     pub verdict: Verdict,
 }
 
+// A flag.
+pub fn one_if(yes: bool) -> u32
+    ensures { λ r. ⌜ r ≡ oneIf yes ⌝ }
+{
+    if yes { 1 } else { 0 }
+}
+
 pub fn no_frequency() -> Frequency
     ensures { λ r. ⌜ r ≡ noFrequency ⌝ }
 {
-    Frequency {
-        given: false,
-        hz: 0,
-    }
+    Frequency { given: 0, hz: 0 }
 }
 
 pub fn no_dxcc() -> Dxcc
     ensures { λ r. ⌜ r ≡ noDxcc ⌝ }
 {
     Dxcc {
-        given: false,
-        negative: false,
+        given: 0,
+        negative: 0,
         size: 0,
     }
 }
@@ -141,19 +147,34 @@ fn is_modal(p: Place) -> bool
     text::any(p.kind <= 2, text::all(p.kind == 4, p.start < 31))
 }
 
-pub fn is_qso(text: &[u8], qso: Qso) -> bool
-    ensures { λ r. ⌜ r ≡ isQso (now (text .entry)) qso ⌝ }
+fn is_placed(text: &[u8], qso: Qso) -> bool
+    ensures { λ r. ⌜ r ≡ isPlaced (now (text .entry)) qso ⌝ }
 {
     let fit = are_fit(text, qso.columns);
     let modal = text::all(is_modal(qso.columns[MODE]), is_modal(qso.columns[SUBMODE]));
     text::all(fit, modal)
 }
 
+// Every flag is 0 or 1, also one that nothing else looks at.
+fn is_flagged(qso: Qso) -> bool
+    ensures { λ r. ⌜ r ≡ isFlagged qso ⌝ }
+{
+    let hertz = text::all(qso.freq.given <= 1, qso.freq_rx.given <= 1);
+    let entity = text::all(qso.dxcc.given <= 1, qso.dxcc.negative <= 1);
+    text::all(hertz, entity)
+}
+
+pub fn is_qso(text: &[u8], qso: Qso) -> bool
+    ensures { λ r. ⌜ r ≡ isQso (now (text .entry)) qso ⌝ }
+{
+    text::all(is_flagged(qso), is_placed(text, qso))
+}
+
 // ---- normalising
 fn band_at(f: Frequency) -> Place
     ensures { λ r. ⌜ r ≡ bandAt f ⌝ }
 {
-    if f.given {
+    if f.given == 1 {
         return bands::band_for_freq_hz(f.hz);
     }
     places::absent()

@@ -33,7 +33,7 @@ use Rattle.trip.proofs.Raised.{good-raised}
 use Rattle.trip.proofs.Lengths.{decimal-ascii}
 use Rattle.trip.proofs.Accepted.{utf8-is}
 use Rattle.model.specs.Contact.{contact, placeOf, hertz, entity}
-use Rattle.model.specs.Answer.{isPart, isFit, areFit, isQso}
+use Rattle.model.specs.Answer.{isPart, isFit, areFit, isPlaced, isFlagged, isQso}
 use Rattle.model.specs.declared.Qso.{Qso}
 use Rattle.adif.specs.Grammar.{Field}
 use Rattle.columns.specs.Columns
@@ -145,8 +145,8 @@ entity-held (some n) = signed-held n
 -- ---- the columns of a QSO of the text
 module _ (text : List ℕ) (small : length text ≤ 16777216) (q : Qso) (e : isQso text q ≡ true) where
   all-fit : areFit text (q .columns) ≡ true
-  unfolding isQso
-  all-fit = both-left (areFit text (q .columns)) _ e
+  unfolding isQso isPlaced
+  all-fit = both-left (areFit text (q .columns)) _ (both-right (isFlagged q) (isPlaced text q) e)
 
   column-held : (k : ℕ) → Held (value text (placeOf q k))
   column-held k = place-held text small (placeOf q k) (fit-at text (q .columns) all-fit k)

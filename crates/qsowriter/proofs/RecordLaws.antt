@@ -21,6 +21,7 @@ use Rattle.tables.specs.Modes.{modeNames}
 use Rattle.tables.specs.Place.{part, value, bytes, orEmpty}
 use Rattle.tables.specs.declared.Place.{Place}
 use Rattle.columns.specs.Columns.{call, qsoDate, timeOn, band, mode, submode, bandRx, rstSent, rstRcvd, gridsquare}
+use Rattle.model.specs.Flags.{isYes}
 use Rattle.model.specs.Contact.{contact, hertz, signed, entity, placeOf}
 use Rattle.model.specs.declared.Dxcc.{Dxcc}
 use Rattle.model.specs.declared.Frequency.{Frequency}
@@ -105,7 +106,7 @@ module _ (text : List ℕ) where
 
   split-said : (p : Place) (f : Frequency) → said text (splitCell p f) ≡ splitOnly (hertz f) (value text p)
   unfolding splitCell
-  split-said p f = by (f .given)
+  split-said p f = by (isYes (f .given))
     where
       by : (b : Bool) → said text (pick b (wordsCell p) Dropped) ≡ splitOnly (pick b (some (f .hz)) none) (value text p)
       by true = words-said p
@@ -113,7 +114,7 @@ module _ (text : List ℕ) where
 
   megahertz-said : (f : Frequency) → said text (megahertzCell f) ≡ megahertz (hertz f)
   unfolding megahertzCell
-  megahertz-said f = by (f .given)
+  megahertz-said f = by (isYes (f .given))
     where
       by : (b : Bool) → said text (pick b (Megahertz (f .hz)) Dropped) ≡ megahertz (pick b (some (f .hz)) none)
       by true = refl
@@ -126,10 +127,10 @@ module _ (text : List ℕ) where
 
   entity-said : (d : Dxcc) → said text (entityCell d) ≡ entityText (entity d)
   unfolding entityCell
-  entity-said d = by (d .given)
+  entity-said d = by (isYes (d .given))
     where
-      by : (b : Bool) → said text (pick b (Number (d .negative) (d .size)) Dropped) ≡ entityText (pick b (some (signed (d .negative) (d .size))) none)
-      by true = ap some (number-said (d .negative) (d .size))
+      by : (b : Bool) → said text (pick b (Number (isYes (d .negative)) (d .size)) Dropped) ≡ entityText (pick b (some (signed (isYes (d .negative)) (d .size))) none)
+      by true = ap some (number-said (isYes (d .negative)) (d .size))
       by false = refl
 
   -- ---- one column more

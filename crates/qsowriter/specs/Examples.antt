@@ -56,7 +56,7 @@ unfolding qsoText contactWith contact value recordOf columnFields fieldText deci
 nothing-said = refl
 
 -- 14 comes before 11
-too-high : qsoVerdict [] (record { columns = noColumns; freq = record { given = true; hz = 8589934592000000 }; «freq_rx» = noFrequency; dxcc = noDxcc }) [] 1
+too-high : qsoVerdict [] (record { columns = noColumns; freq = record { given = 1; hz = 8589934592000000 }; «freq_rx» = noFrequency; dxcc = noDxcc }) [] 1
     ≡ Refused FrequencyTooHigh
 unfolding qsoVerdict
 too-high = refl

@@ -18,6 +18,7 @@ use Rattle.fields.specs.Written.{recordText}
 use Rattle.rowcheck.specs.Check.{Row, nameIn, placed, sound, isLess, writable, andThen}
 use Rattle.writer.specs.Rows.{rowsOf, rowField}
 use Rattle.writer.specs.Answer.{sizedBy}
+use Rattle.model.specs.Flags.{isYes}
 use Rattle.model.specs.Contact.{Contact, contact}
 use Rattle.model.specs.Answer.{isQso}
 use Rattle.model.specs.declared.Frequency.{Frequency}
@@ -34,7 +35,7 @@ qsoText text q extra = recordText (recordOf (contactWith text q extra))
 
 -- 14: a frequency of 8,589,934,592,000,000 Hz or more
 abbrev pub isTooHigh : Frequency → Bool
-isTooHigh f = both (f .given) (leb 8589934592000000 (f .hz))
+isTooHigh f = both (isYes (f .given)) (leb 8589934592000000 (f .hz))
 
 -- a field of the columns has that name
 abbrev pub isTaken : List Field → List ℕ → Bool

@@ -30,7 +30,7 @@ pub struct WrittenQso {
 fn is_too_high(f: Frequency) -> bool
     ensures { λ r. ⌜ r ≡ isTooHigh f ⌝ }
 {
-    text::all(f.given, 8589934592000000 <= f.hz)
+    text::all(f.given == 1, 8589934592000000 <= f.hz)
 }
 
 // The column has that name.

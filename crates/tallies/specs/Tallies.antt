@@ -8,7 +8,7 @@ use Rattle.contacts.specs.Lists.{idAt, servicesAt}
 use Rattle.index.specs.Rows.{low, high}
 use Rattle.confirmations.specs.declared.Answer.{Answer}
 use Rattle.plan.specs.Confirmed.{hasBit}
-use Rattle.entries.specs.Row.{oneIf}
+use Rattle.model.specs.Flags.{oneIf}
 use Rattle.tallies.specs.declared.Tally.{Tally}
 use Rattle.tallies.specs.declared.Target.{Target}
 

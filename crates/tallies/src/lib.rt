@@ -2,7 +2,7 @@
 ghost use mathlib.Core.Path.{_≡_};
 ghost use Prim.Native.Nat.{_+_, _≤_, _<_};
 ghost use lib.ListN.{set};
-ghost use Rattle.entries.specs.Row.{oneIf};
+ghost use Rattle.model.specs.Flags.{oneIf};
 ghost use Rattle.tallies.specs.Tallies.{targetIn, targetOf, isNew, isOld, isLost, tallyWith, cardFor, unmarked, bitsOf, servicesIn, Few, Grown};
 use confirmations::Answer;
 
