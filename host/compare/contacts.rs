@@ -1,5 +1,6 @@
 //! Contact lists beside a plain writer, reader, index and scan of the host's own.
 
+use crate::files::EMPTY;
 use crate::generate::{Random, damage, utf8};
 use crate::harness::{Group, Run};
 use oxbreathe::sys::{self, AppendAnswer, FreshAnswer, MarkAnswer, Record};
@@ -14,6 +15,7 @@ pub fn run(run: &mut Run) {
     run.group("contacts/searches", searches);
     run.group("contacts/large", large);
     run.group("contacts/written", writes);
+    run.group("contacts/headings", headings);
     run.group("contacts/wrapper", wrapper);
 }
 
@@ -388,10 +390,12 @@ fn indexes(g: &mut Group) {
     }
 }
 
-/// What searching is to leave: the answer, and the numbers found.
-fn searched(list: &[u8], other: &[u8], window: i64, rooms: (usize, usize)) -> (MarkAnswer, Vec<u64>) {
-    let refused = |refusal| (MarkAnswer { refusal, ..MarkAnswer::default() }, vec![0; rooms.1]);
-    let (built, _) = indexed(list, rooms.0);
+/// What searching is to leave: the answer, the index and the numbers found; both tables zero after any refusal.
+fn searched(list: &[u8], other: &[u8], window: i64, rooms: (usize, usize)) -> (MarkAnswer, Vec<Record>, Vec<u64>) {
+    let refused = |refusal| {
+        (MarkAnswer { refusal, ..MarkAnswer::default() }, vec![Record::default(); rooms.0], vec![0; rooms.1])
+    };
+    let (built, index) = indexed(list, rooms.0);
     let answer = marked(other);
     match (built.refusal, answer.refusal, answer.contacts > rooms.1) {
         (0, 0, false) => (),
@@ -401,7 +405,7 @@ fn searched(list: &[u8], other: &[u8], window: i64, rooms: (usize, usize)) -> (M
     let contacts: Vec<_> = read(list).unwrap().into_iter().map(|(_, c)| (c.clone(), moment(&c))).collect();
     let mut found: Vec<u64> = read(other).unwrap().iter().map(|(_, q)| scanned(&contacts, q, window)).collect();
     found.resize(rooms.1, 0);
-    (answer, found)
+    (answer, index, found)
 }
 
 fn window(random: &mut Random) -> i64 {
@@ -414,7 +418,7 @@ fn searches(g: &mut Group) {
         let mut list = written(&some(&mut g.random, count, alike));
         let mut other = written(&some(&mut g.random, queries, alike));
         let mut rooms = (count + g.random.place(2), queries + g.random.place(2));
-        match g.random.below(20) {
+        match g.random.below(12) {
             0 => damage(&mut g.random, &mut list),
             1 => damage(&mut g.random, &mut other),
             2 => rooms.0 = rooms.0.saturating_sub(2),
@@ -424,8 +428,8 @@ fn searches(g: &mut Group) {
         let window = window(&mut g.random);
         let (mut index, mut found) = (vec![USED; rooms.0], vec![7; rooms.1]);
         let answer = sys::contacts_search(&list, &other, window, &mut index, &mut found);
-        let (expected, numbers) = searched(&list, &other, window, rooms);
-        g.same(&list[..], (answer, index), (expected, indexed(&list, rooms.0).1));
+        let (expected, left, numbers) = searched(&list, &other, window, rooms);
+        g.same(&list[..], (answer, index), (expected, left));
         if found.len() != numbers.len() {
             continue;
         }
@@ -446,8 +450,8 @@ fn large(g: &mut Group) {
             let (list, other) = (written(&contacts), written(&asked));
             let (mut index, mut found) = (vec![USED; count], vec![7; asked.len()]);
             let answer = sys::contacts_search(&list, &other, 1800, &mut index, &mut found);
-            let (expected, numbers) = searched(&list, &other, 1800, (count, asked.len()));
-            g.same(&list[..0], answer, expected);
+            let (expected, left, numbers) = searched(&list, &other, 1800, (count, asked.len()));
+            g.same(&list[..0], (answer, index == left), (expected, true));
             for (ours, theirs) in found.into_iter().zip(numbers) {
                 g.same(&list[..0], ours, theirs);
             }
@@ -502,23 +506,98 @@ fn writes(g: &mut Group) {
             }
         }
     }
-    // bytes that are no list, a count that cannot grow, and a list that would be too long
-    let mut out = vec![7; LONGEST + 300];
-    let before = out.clone();
-    let contact = alike(&mut g.random, 9);
-    let contact = Contact { date: b"20260301".to_vec(), time: b"1200".to_vec(), ..contact };
-    let [call, date, time, band, mode] = contact.texts().map(|t| &t[..]);
-    let cases = [
-        (4, 0, 17),
-        (0, 0, 17),
-        (LONGEST + 1, 0, 17),
-        (5, u32::MAX as usize, 17),
-        (usize::MAX, 0, 17),
-        (LONGEST, 1, 1),
-    ];
-    for (used, count, refusal) in cases {
-        let answer = sys::contacts_append(&mut out, used, count, 3, 9, 0, call, date, time, band, mode);
-        g.same(used as u64, (answer, out == before), (AppendAnswer { refusal, length: 0 }, true));
+}
+
+/// What the heading of a list to append to is refused with: what a list's check says of its version and its count, and 17 where the caller
+/// tells another count, or there is no larger one.
+fn heading(list: &[u8], told: usize) -> Result<(), u32> {
+    match *list {
+        [] => Err(17),
+        [1, a, b, c, d, ..] => {
+            let count = u32::from_be_bytes([a, b, c, d]);
+            if count as usize == told && count < u32::MAX { Ok(()) } else { Err(17) }
+        }
+        [1, ..] => Err(17),
+        _ => Err(16),
+    }
+}
+
+/// A contact appended to bytes of every kind, lists or not, with a count that is theirs or not; and where the list is as long as may be.
+fn headings(g: &mut Group) {
+    let sound = Contact { date: b"20260301".to_vec(), time: b"1200".to_vec(), ..alike(&mut g.random, 9) };
+    let append = |g: &mut Group, before: &[u8], used: usize, told: usize, contact: &Contact, largest: u64| {
+        let texts = contact.texts().map(|t| &t[..]);
+        let end = used.saturating_add(16 + texts.iter().map(|t| t.len()).sum::<usize>());
+        let refusal = match heading(&before[..used.min(before.len())], told) {
+            _ if used > LONGEST || texts.iter().any(|t| t.len() > LONGEST) => 1,
+            Err(why) => why,
+            _ if texts.iter().any(|t| t.len() > 255) || !is_sound(contact) => 17,
+            _ if contact.id <= largest => 18,
+            _ if end > LONGEST => 1,
+            _ if end > before.len() => 13,
+            Ok(()) => 0,
+        };
+        let (mut out, mut expected) = (before.to_vec(), before.to_vec());
+        let length = if refusal == 0 { end } else { 0 };
+        if refusal == 0 {
+            let entry = &written(std::slice::from_ref(contact))[5..];
+            expected[used..end].copy_from_slice(entry);
+            expected[1..5].copy_from_slice(&(told as u32 + 1).to_be_bytes());
+        }
+        let [call, date, time, band, mode] = texts;
+        let answer = sys::contacts_append(
+            &mut out, used, told, largest, contact.id, contact.services, call, date, time, band, mode,
+        );
+        g.same((&before[..before.len().min(9)], used as u64, told as u64), (answer, out == expected), (
+            AppendAnswer { refusal, length },
+            true,
+        ));
+        refusal
+    };
+    let mut seen = std::collections::BTreeSet::new();
+    for _ in 0..g.depth(3_000, 300_000) {
+        let bytes = [0, 1, 1, 1, 2, 3, 255];
+        let mut before: Vec<u8> = vec![1, 0, 0, 0, 0];
+        for byte in &mut before {
+            if g.random.below(4) == 0 {
+                *byte = g.random.pick(&bytes);
+            }
+        }
+        before.resize(g.random.pick(&[0, 1, 4, 5, 6, 60, 100]), 7);
+        let used = g.random.pick(&[0, 1, 3, 4, 5, 5, 5, 6, 50, 99, 101, usize::MAX]);
+        let count = before.get(1..5).map_or(0, |b| u32::from_be_bytes(b.try_into().unwrap())) as usize;
+        let told = g.random.pick(&[count, count, count, 0, count ^ 1, u32::MAX as usize - 1, u32::MAX as usize, usize::MAX]);
+        let mut contact = sound.clone();
+        if g.random.below(6) == 0 {
+            spoil(&mut g.random, &mut contact);
+        }
+        let largest = g.random.pick(&[0, 8, 9]);
+        seen.insert(append(g, &before, used, told, &contact, largest));
+    }
+    g.same("each refusal", seen.into_iter().collect::<Vec<_>>(), vec![0, 1, 13, 16, 17, 18]);
+    // every first byte, every short list, and counts at their end
+    for byte in 0..=255 {
+        append(g, &[byte, 0, 0, 0, 0, 9], 5, 0, &sound, 3);
+        append(g, &[&[byte, 0, 0, 0, 0][..], &[9; 60]].concat(), 5, 0, &sound, 3);
+    }
+    for used in 0..8 {
+        append(g, &[&[1, 0, 0, 0, 0][..], &[9; 60]].concat(), used, 0, &sound, 3);
+    }
+    for told in [u32::MAX - 2, u32::MAX - 1, u32::MAX] {
+        let list = [&[1][..], &told.to_be_bytes(), &[9; 60]].concat();
+        append(g, &list, 5, told as usize, &sound, 3);
+        append(g, &[&EMPTY[..], &[9; 60]].concat(), 5, told as usize, &sound, 3);
+    }
+    append(g, &[&[3; 5][..], &[9; 60]].concat(), 5, 0, &sound, 3);
+    // a list as long as may be, one byte shorter and one longer, and texts that long
+    let mut long = vec![7; LONGEST + 300];
+    long[..5].copy_from_slice(&EMPTY);
+    let size = written(std::slice::from_ref(&sound)).len() - 5;
+    for used in [LONGEST - size - 1, LONGEST - size, LONGEST - size + 1, LONGEST, LONGEST + 1] {
+        append(g, &long, used, 0, &sound, 3);
+    }
+    for length in [LONGEST, LONGEST + 1] {
+        append(g, &long[..100], 5, 0, &Contact { mode: vec![b'x'; length], ..sound.clone() }, 3);
     }
 }
 
@@ -560,7 +639,7 @@ fn wrapper(g: &mut Group) {
             listed.contacts().map(told).collect(),
             contacts.iter().map(|(_, c)| c.clone()).collect::<Vec<_>>(),
         );
-        let (_, numbers) = searched(&damaged, &other, window, (contacts.len(), others.len()));
+        let (_, _, numbers) = searched(&damaged, &other, window, (contacts.len(), others.len()));
         let found = numbers.iter().map(|&n| (n as usize).checked_sub(1).map(|n| contacts[n].1.clone())).collect();
         g.same(
             &damaged[..],

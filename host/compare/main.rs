@@ -15,6 +15,7 @@ mod frequency;
 mod generate;
 mod harness;
 mod hostile;
+mod limits;
 #[cfg(original)]
 mod model;
 #[cfg(original)]
@@ -60,6 +61,7 @@ fn compare(mut run: Run, folder: &Path, samples: &Path) -> ExitCode {
     writing::run(&mut run);
     contacts::run(&mut run);
     hostile::run(&mut run);
+    limits::run(&mut run);
     vectors::run(&mut run, folder, samples);
     examples::run(&mut run);
     #[cfg(original)]

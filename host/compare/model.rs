@@ -6,8 +6,8 @@ use crate::harness::{Group, Run};
 use crate::vectors::COLUMNS;
 use original::adif::{AdifRecord, parse_adif_to_qsos, record_to_qso, write_record};
 use original::model::Qso;
-use oxbreathe::normalize;
-use oxbreathe::sys::{self, Place, QsoAnswer};
+use oxbreathe::sys::{self, ColumnAnswer, Place, QsoAnswer};
+use oxbreathe::{LONGEST, normalize};
 
 pub fn run(run: &mut Run) {
     run.group("model/columns", columns);
@@ -126,7 +126,7 @@ pub fn told(text: &[u8], table: &[u32], qso: &sys::Qso) -> Qso {
     let part =
         |place: u32, length: u32| std::str::from_utf8(&text[place as usize..][..length as usize]).unwrap().to_string();
     let rows = table.chunks_exact(5);
-    let extra = rows.filter(|row| sys::column(part(row[1], row[2]).as_bytes()) == 13);
+    let extra = rows.filter(|row| sys::column(part(row[1], row[2]).as_bytes()).column == 13);
     Qso {
         call: column(0).unwrap_or_default(),
         qso_date: column(1).unwrap_or_default(),
@@ -174,11 +174,28 @@ fn columns(g: &mut Group) {
             let is = other.eq_ignore_ascii_case(name);
             let expected =
                 if is { number } else { COLUMNS.iter().position(|c| c.eq_ignore_ascii_case(&other)).unwrap_or(13) };
-            g.same(other.as_str(), sys::column(other.as_bytes()) as usize, expected);
+            let answer = sys::column(other.as_bytes());
+            g.same(other.as_str(), (answer.refusal, answer.place, answer.column as usize), (0, 0, expected));
         }
     }
     for name in EXTRA {
-        g.same(name, sys::column(name.as_bytes()), 13);
+        g.same(name, sys::column(name.as_bytes()).column, 13);
+    }
+    // any bytes, most of them a name with one byte changed: as `from_utf8` says, and then as the names do
+    for _ in 0..g.depth(2_000, 200_000) {
+        let mut name = g.random.pick(&COLUMNS).as_bytes().to_vec();
+        damage(&mut g.random, &mut name);
+        let theirs = match std::str::from_utf8(&name) {
+            Ok(name) => {
+                let column = COLUMNS.iter().position(|c| c.eq_ignore_ascii_case(name)).unwrap_or(13) as u32;
+                ColumnAnswer { column, ..ColumnAnswer::default() }
+            }
+            Err(error) => ColumnAnswer { refusal: 2, place: error.valid_up_to(), column: 0 },
+        };
+        g.same(&name[..], sys::column(&name), theirs);
+    }
+    for (length, refusal, column) in [(LONGEST, 0, 13), (LONGEST + 1, 1, 0)] {
+        g.same(length as u64, sys::column(&vec![b' '; length]), ColumnAnswer { refusal, place: 0, column });
     }
 }
 

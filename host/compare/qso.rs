@@ -114,7 +114,7 @@ fn same(g: &mut Group, text: &[u8], qso: sys::Qso, table: &[u32], count: usize, 
 
 /// The rows of a record that are no columns.
 fn extra_rows(text: &[u8], table: &[u32]) -> Vec<u32> {
-    let extra = |row: &&[u32]| sys::column(&text[row[1] as usize..][..row[2] as usize]) == 13;
+    let extra = |row: &&[u32]| sys::column(&text[row[1] as usize..][..row[2] as usize]).column == 13;
     table.chunks_exact(5).filter(extra).flatten().copied().collect()
 }
 

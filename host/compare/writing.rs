@@ -495,11 +495,14 @@ fn export(g: &mut Group) {
     }
 }
 
-/// The texts as `str`, or 11.
+/// The texts as `str`; else 11 where one is not UTF-8, and then 1 where one is too long.
 pub fn strs<const N: usize>(texts: [&[u8]; N]) -> Result<[&str; N], u32> {
     let mut all = [""; N];
     for (slot, text) in all.iter_mut().zip(texts) {
         *slot = std::str::from_utf8(text).map_err(|_| 11u32)?;
+    }
+    if texts.iter().any(|text| text.len() > LONGEST) {
+        return Err(1);
     }
     Ok(all)
 }
@@ -533,6 +536,27 @@ fn station(g: &mut Group) {
     let station = writing::Station { call: " W1AW", cq_zone: "5", ..writing::Station::default() };
     let fields = b"<MY_CQ_ZONE:1>5 <OPERATOR:4>W1AW <STATION_CALLSIGN:4>W1AW ";
     g.same("a station", writing::station_fields(&station, &mut out), Ok(&fields[..]));
-    let long = vec![b'x'; LONGEST];
-    call(g, 0, 100, &Err(1), |out| sys::station_fields(b"", &long, b"", b"", b"", b"", b"", out));
+    // "11 for a text not UTF-8, 1, 13": 1 is for any of the texts, also one that would be trimmed away, and for what is written
+    let long = |length: usize, with: u8| {
+        let mut text = vec![b' '; length];
+        text[length / 2] = with;
+        text
+    };
+    let (blank, over, bad) = (long(LONGEST, b' '), long(LONGEST + 1, b' '), long(LONGEST + 1, 0xFF));
+    let whole = vec![b'x'; LONGEST];
+    for k in 0..7 {
+        let with = |text: &[u8], out: &mut [u8], other: &[u8]| {
+            let mut texts = [other; 7];
+            texts[k] = text;
+            let [call, grid, name, state, county, cq, itu] = texts;
+            sys::station_fields(call, grid, name, state, county, cq, itu, out)
+        };
+        for room in [0, 100] {
+            call(g, k as u64, room, &Ok(Vec::new()), |out| with(&blank, out, b""));
+            call(g, k as u64, room, &Err(1), |out| with(&over, out, b""));
+            call(g, k as u64, room, &Err(1), |out| with(&whole, out, b""));
+            call(g, k as u64, room, &Err(11), |out| with(&bad, out, b""));
+            call(g, k as u64, room, &Err(11), |out| with(&over, out, b"\xFF"));
+        }
+    }
 }

@@ -34,11 +34,13 @@ impl Column {
     /// ```
     /// use oxbreathe::qso::Column;
     ///
-    /// assert_eq!(Column::named(b"Time_On"), Some(Column::TimeOn));
-    /// assert_eq!(Column::named(b"NAME"), None);
+    /// assert_eq!(Column::named(b"Time_On")?, Some(Column::TimeOn));
+    /// assert_eq!(Column::named(b"NAME")?, None);
+    /// assert_eq!(Column::named(b"\xFF").unwrap_err().number(), 2);
+    /// # Ok::<(), oxbreathe::Refusal>(())
     /// ```
-    pub fn named(name: &[u8]) -> Option<Column> {
-        Column::numbered(sys::column(name))
+    pub fn named(name: &[u8]) -> Result<Option<Column>, Refusal> {
+        Ok(Column::numbered(sys::column(name).accepted()?.column))
     }
 }
 
@@ -192,5 +194,6 @@ fn hertz(frequency: sys::Hertz) -> Option<u64> {
 }
 
 fn is_extra(field: &Field) -> bool {
-    Column::named(field.name.as_bytes()).is_none()
+    // a name that was read is a text, so it is never refused
+    matches!(Column::named(field.name.as_bytes()), Ok(None))
 }

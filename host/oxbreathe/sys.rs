@@ -87,6 +87,8 @@ structs! {
     Dxcc [] { given: u32, negative: u32, size: u64 }
     /// A contact over a text: its columns, in the order of [`Column`](crate::qso::Column), and its numbers.
     Qso [] { columns: [Place; 13], freq: Hertz, freq_rx: Hertz, dxcc: Dxcc }
+    /// The number of the column that a name names, 13 where it names none.
+    ColumnAnswer [refusal place] { column: u32 }
     /// A contact, which a refusal leaves empty, unchanged or without its frequencies.
     QsoAnswer [refusal] { qso: Qso }
     /// How many bytes a contact took; and the contact, unchanged.
@@ -195,7 +197,7 @@ calls! {
         call: &[u8], grid: &[u8], name: &[u8], state: &[u8], county: &[u8], cq: &[u8], itu: &[u8], out: &mut [u8]
     ) -> Written;
 
-    column(name: &[u8]) -> u32;
+    column(name: &[u8]) -> ColumnAnswer;
     record_to_qso(text: &[u8], table: &[u32], first: usize, count: usize) -> QsoAnswer;
     record_to_normal_qso(text: &[u8], table: &[u32], first: usize, count: usize) -> QsoAnswer;
     normalize_qso(text: &[u8], qso: Qso) -> QsoAnswer;
