@@ -1,4 +1,5 @@
 pub mod BandLaws
 pub mod NormalMeaning
 pub mod MappingMeaning
+pub mod MappedFlags
 pub mod NormalKept
