@@ -24,11 +24,17 @@ checks() {
     passed=$((passed + ${1:-0})) failed=$((failed + ${2:-1}))
 }
 again() { program preview samples/club.adi samples/club.adi | cmp - "$here/club_again.txt"; }
+moved() {
+    program moved/layout | sed '$d' >"$programs/moved/told"
+    printf 'not as in the crates: offset of ox_contact.%s\n' head next | cmp - "$programs/moved/told"
+}
 shown() {
     program preview "$1" | sed 's/^\([0-9]* unusable [0-9]\) (.*)$/\1/; s/^\(refused [0-9]*\):.*/\1/' | cmp - "${1%.adi}.txt"
 }
 
 checks examples
+checks layout
+counted 'a header with fields moved' moved
 checks preview --self-test
 counted 'the header in C++' program cpp
 counted 'a log against itself' again
