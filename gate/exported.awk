@@ -62,6 +62,12 @@ function in_c(rattle,    n) {
     return is_plain(rattle) ? c_type[rattle] : struct_name("C", rattle)
 }
 function is_plain(word) { return word == "mut" || word in c_type }
+# something of that type as C declares it
+function declaration(rattle, its_name,    in_words, at) {
+    in_words = in_c(rattle)
+    at = index(in_words "[", "[")
+    return substr(in_words, 1, at - 1) " " its_name substr(in_words, at)
+}
 
 FILENAME ~ /\.rt$/ { sub(/\/\/.*/, "") }
 FILENAME ~ /\.rt$/ && FNR == 1 {

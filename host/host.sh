@@ -353,7 +353,11 @@ importer() {
     # beside it, where C looks first, a header with two fields exchanged, which is to fail
     cp "$to/layout.c" "$to/moved"
     sed '/struct ox_contact {/,/}/ { s/ head;/ N;/; s/ next;/ head;/; s/ N;/ next;/; }' "$root/include/oxbreathe.h" >"$to/moved/oxbreathe.h"
+    (cd "$root" && awk -f gate/exported.awk -f host/importer/exchange.awk crates/*/src/*.rt) >"$to/exchange.c"
     linked preview -std=c11 "$host/importer/preview.c" "$host/importer/selftest.c"
+    # shellcheck disable=SC2046
+    linked exchange -std=c11 $(sed -n 's/.* __wrap_\(ox_[a-z0-9_]*\)(.*{$/-Wl,--wrap=\1/p' "$to/exchange.c") \
+        "$to/exchange.c" "$host/importer/preview.c" "$host/importer/selftest.c"
     linked examples -std=c11 "$to/examples.c"
     linked layout -std=c11 "$to/layout.c"
     linked moved/layout -std=c11 "$to/moved/layout.c"

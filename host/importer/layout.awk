@@ -6,11 +6,6 @@ function wrong(what) {
     print "layout: " what >"/dev/stderr"
     failed = 1
 }
-# a field as C declares it
-function declaration(its_type, its_name,    at) {
-    at = index(its_type, "[")
-    return at ? substr(its_type, 1, at - 1) " " its_name substr(its_type, at) : its_type " " its_name
-}
 # a struct of the crates in the program, where a struct inside it is the header's, which is held as well
 function ours(rattle) {
     sub(/::/, "_", rattle)
@@ -36,7 +31,7 @@ END {
     for (k = 1; k <= structs; k++) {
         print "\ntypedef struct {"
         for (i = 1; i <= count[struct[k]]; i++)
-            print "    " declaration(in_c(type[struct[k], i]), name[struct[k], i]) ";"
+            print "    " declaration(type[struct[k], i], name[struct[k], i]) ";"
         print "} " ours(struct[k]) ";"
     }
     print "\nint main(void) {"
@@ -45,7 +40,7 @@ END {
         theirs = struct_name("C", its)
         print "    SIZE(" ours(its) ", " theirs ");"
         for (i = 1; i <= count[its]; i++) {
-            pointer = declaration(in_c(type[its, i]), "(*)")
+            pointer = declaration(type[its, i], "(*)")
             print "    FIELD(" ours(its) ", " name[its, i] ", " theirs ", " declared("C", its, name[its, i]) ", " pointer ");"
         }
     }
