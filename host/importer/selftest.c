@@ -514,7 +514,8 @@ static void plans(void) {
     CHECK(is_output(out, sizeof out, ox_plan_summary(counts, out, sizeof out).length,
                     "3 records \302\267 1 to import \302\267 1 duplicate (skipped) \302\267 1 unusable"));
     FILL(out);
-    ox_counts distinct = {2, 3, 4, 5, 6, 7, 8};
+    ox_counts distinct = {.total = 2, .importable = 3, .confirmations = 4, .already_confirmed = 5,
+                          .duplicates = 6, .unmatched = 7, .unusable = 8};
     CHECK(is_output(out, sizeof out, ox_plan_summary(distinct, out, sizeof out).length,
                     "2 records \302\267 3 to import \302\267 4 confirmations \302\267 5 already confirmed \302\267 "
                     "6 duplicates (skipped) \302\267 7 confirmations unmatched \302\267 8 unusable"));
