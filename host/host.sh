@@ -342,15 +342,25 @@ doc() {
     awk '/^test result:/ {files++; passed += $4; failed += $6}
          END {if (files < 2 || passed == 0) failed++; printf "doc: %d passed, %d failed\n", passed, failed; exit failed > 0}' "$to/told"
 }
-# The C program, the examples of the header and the README, and one of C++, built and tested.
+# The C program, the examples of the header and the README, the header's structs beside the crates', and one of C++, built and tested.
 importer() {
     library
     alone for_c
     to=$out/importer
-    mkdir -p "$to"
+    mkdir -p "$to/moved"
     (cd "$root" && awk -f host/importer/examples.awk include/oxbreathe.h README.md) >"$to/examples.c"
+    (cd "$root" && awk -f gate/exported.awk -f host/importer/layout.awk crates/*/src/*.rt) >"$to/layout.c"
+    # beside it, where C looks first, a header with two fields exchanged, which is to fail
+    cp "$to/layout.c" "$to/moved"
+    sed '/struct ox_contact {/,/}/ { s/ head;/ N;/; s/ next;/ head;/; s/ N;/ next;/; }' "$root/include/oxbreathe.h" >"$to/moved/oxbreathe.h"
+    (cd "$root" && awk -f gate/exported.awk -f host/importer/exchange.awk crates/*/src/*.rt) >"$to/exchange.c"
     linked preview -std=c11 "$host/importer/preview.c" "$host/importer/selftest.c"
+    # shellcheck disable=SC2046
+    linked exchange -std=c11 $(sed -n 's/.* __wrap_\(ox_[a-z0-9_]*\)(.*{$/-Wl,--wrap=\1/p' "$to/exchange.c") \
+        "$to/exchange.c" "$host/importer/preview.c" "$host/importer/selftest.c"
     linked examples -std=c11 "$to/examples.c"
+    linked layout -std=c11 "$to/layout.c"
+    linked moved/layout -std=c11 "$to/moved/layout.c"
     linked cpp -std=c++11 "$host/importer/header.cc"
     "$host/importer/test.sh" "$to" $run
 }

@@ -316,7 +316,7 @@ typedef struct ox_frequency {
  *     assert(!ox_mhz_to_hz(OX_TEXT("-0.1")).present);
  *     assert(ox_mhz_to_hz(OX_TEXT("9007199254740993")).refusal == OX_INEXACT_FREQUENCY);
  */
-ox_frequency ox_mhz_to_hz(const char *text, size_t length);
+ox_frequency ox_mhz_to_hz(const char *mhz, size_t length);
 
 /* Writes a frequency as megahertz with six decimals; 17 bytes are always enough. Refuses: 14, 13.
  *
@@ -666,17 +666,17 @@ ox_fresh_answer ox_contacts_fresh(size_t contacts, uint64_t largest, const uint8
  *     assert(ox_contacts_index(list, used, index, 1).refusal == OX_ACCEPTED);
  *     assert(index[0].id == 7 && memcmp(list + index[0].call, "\4W1AW", 5) == 0);
  */
-ox_mark_answer ox_contacts_index(const uint8_t *list, size_t length, ox_contact *index, size_t records);
+ox_mark_answer ox_contacts_index(const uint8_t *list, size_t length, ox_contact *index, size_t contacts);
 
-/* For each contact of `other` the number, from 1, of the first contact of `list` that it matches within `window`
- * seconds, or 0; and the mark of `other`. Refused, the matches are zero throughout. The index is left as
- * ox_contacts_index builds it. Refuses as `list`, 19 for the index, as `other`, 19 for the matches.
+/* Puts for each contact of `other` into `found` the number, from 1, of the first contact of `list` that it matches
+ * within `window` seconds, or 0, and gives the mark of `other`. Refused, `found` is zero throughout. The index is left
+ * as ox_contacts_index builds it. Refuses as `list`, 19 for the index, as `other`, 19 for `found`.
  *
  *     uint64_t matches[1];
  *     assert(ox_contacts_search(list, used, list, used, 1800, index, 1, matches, 1).contacts == 1 && matches[0] == 1);
  */
 ox_mark_answer ox_contacts_search(const uint8_t *list, size_t length, const uint8_t *other, size_t other_length,
-                                  int64_t window, ox_contact *index, size_t records, uint64_t *matches, size_t count);
+                                  int64_t window, ox_contact *index, size_t contacts, uint64_t *found, size_t count);
 
 
 /* ==== Plans =================================================================================================== */
@@ -784,6 +784,7 @@ OX_LAYOUT(ox_qso, 208, dxcc, 192);
 OX_LAYOUT(ox_qso_answer, 216, qso, 8);
 OX_LAYOUT(ox_qso_written, 224, qso, 16);
 OX_LAYOUT(ox_timed, 32, seconds, 24);
+OX_LAYOUT(ox_contact, 56, timed, 52);
 OX_LAYOUT(ox_mark_answer, 24, largest, 16);
 OX_LAYOUT(ox_fresh_answer, 8, fresh, 4);
 OX_LAYOUT(ox_append_answer, 16, length, 8);

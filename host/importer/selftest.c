@@ -1,4 +1,5 @@
-/* Every call of the library as C makes it: what it answers, what it refuses, and what a refusal leaves behind. */
+/* Every call of the library as C makes it: what it answers, what it refuses, and what a refusal leaves behind. Where a
+ * call takes several texts, numbers or contacts, they differ, so that two of them exchanged would be seen. */
 #include "oxbreathe.h"
 #include <stdio.h>
 #include <stdlib.h>
@@ -69,6 +70,8 @@ static void texts(void) {
     CHECK(ox_text_same(OX_TEXT("\377"), TOO_LONG).refusal == OX_TOO_LONG);
     CHECK(ox_text_same_raised(OX_TEXT("40m"), OX_TEXT("40M")).yes);
     CHECK(!ox_text_same_raised(OX_TEXT("\303\251"), OX_TEXT("\303\211")).yes);
+    second = ox_text_same_raised(OX_TEXT("ab"), OX_TEXT("c\377"));
+    CHECK(second.refusal == OX_NOT_UTF8 && second.place == 3 && !second.yes);
     CHECK(ox_text_same_raised(TOO_LONG, NOTHING).refusal == OX_TOO_LONG);
     CHECK(ox_text_order_raised(OX_TEXT("a"), OX_TEXT("B")).order == 0);
     CHECK(ox_text_order_raised(OX_TEXT("a"), OX_TEXT("A")).order == 1);
@@ -241,7 +244,7 @@ static void writing(void) {
     CHECK(is_output(header, sizeof header, written.length,
                     "<ADIF_VER:5>3.1.6 <PROGRAMID:7>rigflow <PROGRAMVERSION:1>1 <CREATED_TIMESTAMP:0> <EOH>\n"));
 
-    char fields[80];
+    char fields[160];
     FILL(fields);
 #define STATION(call, itu, room) ox_station_fields(call, NOTHING, NOTHING, NOTHING, NOTHING, NOTHING, itu, fields, room)
     CHECK(STATION(OX_TEXT("DL0XX"), OX_TEXT("\377"), 80).refusal == OX_BAD_ROW && IS_UNTOUCHED(fields));
@@ -251,6 +254,12 @@ static void writing(void) {
 #undef STATION
     CHECK(is_output(fields, sizeof fields, written.length,
                     "<MY_ITU_ZONE:2>28 <OPERATOR:5>DL0XX <STATION_CALLSIGN:5>DL0XX "));
+    FILL(fields);
+    written = ox_station_fields(OX_TEXT("DL0XX"), OX_TEXT("JO62"), OX_TEXT("Anna"), OX_TEXT("BB"), OX_TEXT("Barnim"),
+                                OX_TEXT("14"), OX_TEXT("28"), fields, sizeof fields);
+    CHECK(is_output(fields, sizeof fields, written.length,
+                    "<MY_CNTY:6>Barnim <MY_CQ_ZONE:2>14 <MY_GRIDSQUARE:4>JO62 <MY_ITU_ZONE:2>28 <MY_NAME:4>Anna "
+                    "<MY_STATE:2>BB <OPERATOR:5>DL0XX <STATION_CALLSIGN:5>DL0XX "));
 }
 
 /* A record and its contact. */
@@ -298,6 +307,15 @@ static void contacts(void) {
     CHECK(refused.refusal == OX_INEXACT_FREQUENCY && !refused.qso.freq.given && !refused.qso.freq_rx.given);
     CHECK(refused.qso.columns[OX_CALL].length == 1);
 
+    /* one row of the second record, from row 2 on */
+    static const char two[] = "<CALL:4>G4ZZ<BAND:3>20m<EOR><CALL:4>W1AW<EOR>";
+    uint32_t rows[3 * OX_ROW];
+    CHECK(ox_read(OX_TEXT(two), rows, 3 * OX_ROW).rows == 3);
+    ox_qso_answer behind = ox_record_to_qso(OX_TEXT(two), rows, 3 * OX_ROW, 2, 1);
+    CHECK(behind.refusal == OX_ACCEPTED && memcmp(two + behind.qso.columns[OX_CALL].start, "W1AW", 4) == 0);
+    behind = ox_record_to_normal_qso(OX_TEXT(two), rows, 3 * OX_ROW, 2, 1);
+    CHECK(behind.refusal == OX_ACCEPTED && memcmp(two + behind.qso.columns[OX_CALL].start, "W1AW", 4) == 0);
+
     ox_qso_answer again = ox_normalize_qso(c.text, c.length, mapped.qso);
     CHECK(again.refusal == OX_ACCEPTED && same_qso(again.qso, normal.qso));
     again = ox_normalize_qso(c.text, 3, mapped.qso);
@@ -328,9 +346,14 @@ static void duplicates(void) {
 
     contact a = contact_of("<CALL:4>W1AW<QSO_DATE:8>20260301<TIME_ON:4>1200<BAND:3>40m<MODE:3>SSB<EOR>");
     contact b = contact_of("<CALL:5>w1aw <QSO_DATE:8>20260301<TIME_ON:4>1230<BAND:3>40m<MODE:3>SSB<EOR>");
+    contact c = contact_of("<MODE:3>SSB<CALL:4>w1aw<TIME_ON:4>1200<QSO_DATE:8>20260301<BAND:3>40m<EOR>");
 #define A a.text, a.length, a.qso
 #define B b.text, b.length, b.qso
+#define C c.text, c.length, c.qso
     CHECK(ox_in_log(A, A).yes && !ox_in_log(A, B).yes && ox_in_file(A, B).yes);
+    /* each contact over its own text, whose fields stand elsewhere */
+    CHECK(ox_in_log(A, C).yes && ox_in_file(A, C).yes && ox_same_natural_key(A, C).yes);
+    CHECK(ox_within_window(A, C, 0).yes && ox_is_duplicate(A, C, 0).yes);
     CHECK(ox_same_natural_key(A, B).yes && !ox_same_natural_key(B, A).yes);
     CHECK(ox_within_window(A, B, 1800).yes && !ox_within_window(A, B, 1799).yes);
     CHECK(!ox_within_window(A, A, -1).yes && ox_within_window(A, B, INT64_MAX).yes);
@@ -343,6 +366,7 @@ static void duplicates(void) {
     CHECK(bad.refusal == OX_BAD_ROW && bad.place == 0 && !bad.yes);
 #undef A
 #undef B
+#undef C
 }
 
 /* Two contacts of W1AW, with the ids 7 and 9; gives the list's length. */
@@ -377,6 +401,8 @@ static void lists(void) {
 #undef APPEND
     size_t length = list_of_two(list, sizeof list);
     CHECK(length == 5 + 2 * (16 + 22) && list[4] == 2 && list[length] == 0xEE);
+    static const char first[] = "\0\44\0\0\0\0\0\0\0\7\1\4W1AW\10" "20260301\4" "1200\3" "40m\3SSB";
+    CHECK(memcmp(list + 5, first, sizeof first - 1) == 0);
 
     ox_mark_answer mark = ox_contacts_check(list, length);
     CHECK(mark.refusal == OX_ACCEPTED && mark.contacts == 2 && mark.largest == 9);
@@ -393,7 +419,13 @@ static void lists(void) {
     CHECK(IS_UNTOUCHED(index[1]));
     CHECK(ox_contacts_index(list, length, index, 3).largest == 9 && IS_ZERO(index[2]));
     CHECK(index[1].id == 9 && index[0].services == OX_LOTW);
+    CHECK(memcmp(list + index[1].call, "\4W1AW", 5) == 0 && memcmp(list + index[1].date, "\10" "20260301", 9) == 0);
     CHECK(memcmp(list + index[1].time, "\0041800", 5) == 0);
+    CHECK(memcmp(list + index[1].band, "\3" "40m", 4) == 0 && memcmp(list + index[1].mode, "\3SSB", 4) == 0);
+    CHECK(index[1].timed == 1 && index[1].seconds == ox_parse_dt(OX_TEXT("20260301"), OX_TEXT("1800")).seconds);
+    /* one chain: its last contact is the second, which the first is before */
+    CHECK(index[0].code == index[1].code && index[0].head + index[1].head == 2);
+    CHECK(index[0].next == 0 && index[1].next == 1);
 
     uint64_t matches[4];
     FILL(matches);
@@ -401,6 +433,12 @@ static void lists(void) {
     CHECK(mark.contacts == 2 && matches[0] == 1 && matches[1] == 2 && matches[2] == 0 && matches[3] == 0);
     ox_contacts_search(list, length, list, length, 21600, index, 3, matches, 4);
     CHECK(matches[1] == 1);
+    uint8_t other[48]; /* one contact, like the second of the list */
+    size_t used = ox_contacts_start(other, sizeof other).length;
+    used = ox_contacts_append(other, sizeof other, used, 0, 0, 4, 0, OX_TEXT("W1AW"), OX_TEXT("20260301"),
+                              OX_TEXT("1801"), OX_TEXT("40m"), OX_TEXT("SSB")).length;
+    mark = ox_contacts_search(list, length, other, used, 1800, index, 3, matches, 4);
+    CHECK(mark.contacts == 1 && mark.largest == 4 && matches[0] == 2 && matches[1] == 0);
     FILL(matches);
     mark = ox_contacts_search(list, length, list, length, 1800, index, 3, matches, 1);
     CHECK(mark.refusal == OX_SHORT_TABLE && matches[0] == 0);
@@ -475,6 +513,12 @@ static void plans(void) {
     CHECK(ox_plan_summary(counts, out, 60).refusal == OX_SHORT_OUTPUT && IS_UNTOUCHED(out));
     CHECK(is_output(out, sizeof out, ox_plan_summary(counts, out, sizeof out).length,
                     "3 records \302\267 1 to import \302\267 1 duplicate (skipped) \302\267 1 unusable"));
+    FILL(out);
+    ox_counts distinct = {.total = 2, .importable = 3, .confirmations = 4, .already_confirmed = 5,
+                          .duplicates = 6, .unmatched = 7, .unusable = 8};
+    CHECK(is_output(out, sizeof out, ox_plan_summary(distinct, out, sizeof out).length,
+                    "2 records \302\267 3 to import \302\267 4 confirmations \302\267 5 already confirmed \302\267 "
+                    "6 duplicates (skipped) \302\267 7 confirmations unmatched \302\267 8 unusable"));
     ox_counts most = {UINT64_MAX, UINT64_MAX, UINT64_MAX, UINT64_MAX, UINT64_MAX, UINT64_MAX, UINT64_MAX};
     CHECK(ox_plan_summary(most, out, sizeof out).length == OX_SUMMARY);
 }

@@ -24,12 +24,26 @@ checks() {
     passed=$((passed + ${1:-0})) failed=$((failed + ${2:-1}))
 }
 again() { program preview samples/club.adi samples/club.adi | cmp - "$here/club_again.txt"; }
+moved() {
+    program moved/layout | sed '$d' >"$programs/moved/told"
+    printf 'not as in the crates: offset of ox_contact.%s\n' head next | cmp - "$programs/moved/told"
+}
+unexchanged() { program exchange --self-test >/dev/null; }
+# exchanged NUMBER: the self-test comes to its end with that exchange, and has failed
+# shellcheck disable=SC2086
+exchanged() { env EXCHANGE="$1" $run "$programs/exchange" --self-test | grep -q -x '[0-9]* passed, [1-9][0-9]* failed'; }
 shown() {
     program preview "$1" | sed 's/^\([0-9]* unusable [0-9]\) (.*)$/\1/; s/^\(refused [0-9]*\):.*/\1/' | cmp - "${1%.adi}.txt"
 }
 
 checks examples
+checks layout
+counted 'a header with fields moved' moved
 checks preview --self-test
+counted 'the self-test with nothing exchanged' unexchanged
+sed -n 's|.*; // ||p' "$programs/exchange.c" >"$programs/exchanges"
+counted 'the exchanges' [ -s "$programs/exchanges" ]
+while read -r number what; do counted "the self-test with $what exchanged" exchanged "$number"; done <"$programs/exchanges"
 counted 'the header in C++' program cpp
 counted 'a log against itself' again
 for text in samples/plans/*.adi; do counted "$text" shown "$text"; done

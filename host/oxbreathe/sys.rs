@@ -186,7 +186,7 @@ calls! {
     class_modes(class: u32) -> Span;
     class_name(class: u32) -> Name;
 
-    mhz_to_hz(text: &[u8]) -> Frequency;
+    mhz_to_hz(mhz: &[u8]) -> Frequency;
     hz_to_mhz(hz: u64, out: &mut [u8]) -> Written;
 
     read(text: &[u8], table: &mut [u32]) -> ReadAnswer;
