@@ -2,8 +2,8 @@
  * `make library` writes to target/staticlib; it is for x86-64.
  *
  * The contract. Every call takes any bytes and any numbers, ends, and gives its answer or the number of one refusal. A
- * refused reading, index or plan leaves every table it was lent zero throughout, and a refused writing leaves its
- * output untouched; an accepted one leaves zero behind the part it uses, or touches nothing behind what it wrote.
+ * refused reading, index, search or plan leaves every table it was lent zero throughout, and a refused writing leaves
+ * its output untouched; an accepted one leaves zero behind the part it uses, or touches nothing behind what it wrote.
  * Nothing is kept, allocated or shared: the answer, the tables and the outputs hang on the arguments alone.
  * docs/PROMISES.md says where each of these promises is proved.
  *
@@ -395,7 +395,7 @@ ox_written ox_write(const char *text, size_t length, const uint32_t *table, size
 ox_written ox_journal_header(char *out, size_t room);
 
 /* Writes the header of an export: the version of ADIF, that of the program, and when it was made. Refuses: 11 for a
- * text that is not UTF-8, 1 for the output, 13.
+ * text that is not UTF-8, 1 for a text or the output, 13.
  *
  *     char export_header[200];
  *     ox_written made = ox_export_header(OX_TEXT("3.1.6"), OX_TEXT("0.1"), OX_TEXT("20260301 120000"), export_header,
@@ -405,7 +405,8 @@ ox_written ox_journal_header(char *out, size_t room);
 ox_written ox_export_header(const char *version, size_t version_length, const char *program, size_t program_length,
                             const char *created, size_t created_length, char *out, size_t room);
 
-/* Writes a station's fields, trimmed, blank ones left out, to stand in front of a record's. Refuses: 11, 1, 13.
+/* Writes a station's fields, trimmed, blank ones left out, to stand in front of a record's. Refuses: 11 for a text that
+ * is not UTF-8, 1 for a text, blank or not, or the output, 13.
  *
  *     char station[100];
  *     ox_written mine = ox_station_fields(OX_TEXT("DL0XX"), OX_TEXT(" JO62 "), OX_TEXT(""), OX_TEXT(""), OX_TEXT(""),
@@ -438,7 +439,7 @@ enum ox_columns {
     OX_RST_RCVD,
     OX_GRIDSQUARE,
     OX_DXCC,
-    OX_COLUMNS /* how many; as the answer of ox_column: none of them */
+    OX_COLUMNS /* how many; as a column: none of them */
 };
 
 /* Flags of a contact are numbers, 0 or 1: with any other the contact is refused with 11. */
@@ -459,6 +460,12 @@ typedef struct ox_qso {
     ox_dxcc dxcc;
 } ox_qso;
 
+typedef struct ox_column_answer {
+    uint32_t refusal;
+    size_t place;    /* of the first bad byte with 2 */
+    uint32_t column; /* of enum ox_columns */
+} ox_column_answer;
+
 typedef struct ox_qso_answer {
     uint32_t refusal;
     ox_qso qso;
@@ -470,12 +477,13 @@ typedef struct ox_qso_written {
     ox_qso qso; /* as it was lent, refused or not */
 } ox_qso_written;
 
-/* The column that a field's name names, the case of letters aside; OX_COLUMNS for an extra field. Refuses nothing.
+/* The column that a field's name names, the case of letters aside; OX_COLUMNS for an extra field. Refuses: 1, 2.
  *
- *     assert(ox_column(OX_TEXT("Time_On")) == OX_TIME_ON);
- *     assert(ox_column(OX_TEXT("NAME")) == OX_COLUMNS);
+ *     assert(ox_column(OX_TEXT("Time_On")).column == OX_TIME_ON);
+ *     assert(ox_column(OX_TEXT("NAME")).column == OX_COLUMNS);
+ *     assert(ox_column(OX_TEXT("NAM\377")).refusal == OX_NOT_UTF8);
  */
-uint32_t ox_column(const char *name, size_t length);
+ox_column_answer ox_column(const char *name, size_t length);
 
 /* A record as a contact: `count` rows of a table from row `first` on, as ox_read gives them.
  * Refuses: 1; 11 for rows that the table has not or that are no record of the text, with an empty contact; 15, with the
@@ -503,7 +511,7 @@ ox_qso_answer ox_record_to_normal_qso(const char *text, size_t length, const uin
                                       size_t first, size_t count);
 
 /* A contact with its mode, submode, band and band_rx normalised, and nothing else changed. Refuses: 1; 11 for a contact
- * that is none of the text; both give the contact back as it was.
+ * that is none of the text, or has a flag that is neither 0 nor 1; both give the contact back as it was.
  *
  *     ox_qso_answer again = ox_normalize_qso(RECORD, contact.qso);
  *     assert(memcmp(again.qso.columns, normal.qso.columns, sizeof again.qso.columns) == 0);
@@ -513,7 +521,7 @@ ox_qso_answer ox_normalize_qso(const char *text, size_t length, ox_qso qso);
 
 /* Writes a contact as a record, with the first `count` rows of the table as its extra fields, in byte order of the
  * names. CALL, QSO_DATE, TIME_ON and MODE are always written, an empty BAND never, BAND_RX only beside FREQ_RX; a
- * column wins over an extra field of its name. Refuses: 1 for the text; 14; 11 for the columns or the count; row by
+ * column wins over an extra field of its name. Refuses: 1 for the text; 14; 11 for the contact or the count; row by
  * row 11, 12, 8; then 1 for the output; 13.
  *
  *     char adif[200];
@@ -635,8 +643,10 @@ typedef struct ox_append_answer {
 ox_append_answer ox_contacts_start(uint8_t *out, size_t room);
 
 /* Puts a contact behind the `used` bytes of a list whose mark is `contacts` and `largest`, and counts it. A contact
- * takes 16 bytes and its texts. Refuses: 17 for bytes that are too few for a list or a contact that is none; 18 where
- * its id is not above `largest`; 1; 13.
+ * takes 16 bytes and its texts. Of the list the version and the count are looked at, in constant time. Refuses: 1 for
+ * the list or a text; 17 where the list is empty; 16; 17 where it has no whole count, or another than `contacts`, or
+ * the largest that there is; 17 for a contact that is none; 18 where its id is not above `largest`; 1 for the list
+ * with it; 13.
  *
  *     used = ox_contacts_append(list, sizeof list, used, 0, 0, 7, OX_LOTW, OX_TEXT("W1AW"), OX_TEXT("20260301"),
  *                               OX_TEXT("1200"), OX_TEXT("40m"), OX_TEXT("SSB")).length;
@@ -669,8 +679,8 @@ ox_fresh_answer ox_contacts_fresh(size_t contacts, uint64_t largest, const uint8
 ox_mark_answer ox_contacts_index(const uint8_t *list, size_t length, ox_contact *index, size_t contacts);
 
 /* Puts for each contact of `other` into `found` the number, from 1, of the first contact of `list` that it matches
- * within `window` seconds, or 0, and gives the mark of `other`. Refused, `found` is zero throughout. The index is left
- * as ox_contacts_index builds it. Refuses as `list`, 19 for the index, as `other`, 19 for `found`.
+ * within `window` seconds, or 0, and gives the mark of `other`. The index is left as ox_contacts_index builds it.
+ * Refused, both are zero throughout. Refuses as `list`, 19 for the index, as `other`, 19 for `found`.
  *
  *     uint64_t matches[1];
  *     assert(ox_contacts_search(list, used, list, used, 1800, index, 1, matches, 1).contacts == 1 && matches[0] == 1);
@@ -781,6 +791,7 @@ OX_LAYOUT(ox_read_answer, 64, rows, 56);
 OX_LAYOUT(ox_hertz, 16, hz, 8);
 OX_LAYOUT(ox_dxcc, 16, size, 8);
 OX_LAYOUT(ox_qso, 208, dxcc, 192);
+OX_LAYOUT(ox_column_answer, 24, column, 16);
 OX_LAYOUT(ox_qso_answer, 216, qso, 8);
 OX_LAYOUT(ox_qso_written, 224, qso, 16);
 OX_LAYOUT(ox_timed, 32, seconds, 24);

@@ -249,7 +249,11 @@ static void writing(void) {
 #define STATION(call, itu, room) ox_station_fields(call, NOTHING, NOTHING, NOTHING, NOTHING, NOTHING, itu, fields, room)
     CHECK(STATION(OX_TEXT("DL0XX"), OX_TEXT("\377"), 80).refusal == OX_BAD_ROW && IS_UNTOUCHED(fields));
     CHECK(STATION(OX_TEXT("DL0XX"), OX_TEXT(" 28"), 9).refusal == OX_SHORT_OUTPUT && IS_UNTOUCHED(fields));
-    CHECK(STATION(OX_TEXT("DL0XX"), TOO_LONG, 0).refusal == OX_SHORT_OUTPUT && IS_UNTOUCHED(fields));
+    /* too long, though nothing of it would be written; but not UTF-8 comes first */
+    CHECK(STATION(OX_TEXT("DL0XX"), TOO_LONG, 160).refusal == OX_TOO_LONG && IS_UNTOUCHED(fields));
+#define LONGEST too_long, OX_LONGEST
+    CHECK(STATION(OX_TEXT("DL0XX"), LONGEST, 0).refusal == OX_SHORT_OUTPUT && IS_UNTOUCHED(fields));
+    CHECK(STATION(OX_TEXT("\377"), TOO_LONG, 160).refusal == OX_BAD_ROW && IS_UNTOUCHED(fields));
     written = STATION(OX_TEXT("DL0XX"), OX_TEXT(" 28"), 80);
 #undef STATION
     CHECK(is_output(fields, sizeof fields, written.length,
@@ -272,7 +276,7 @@ typedef struct contact {
 } contact;
 
 static contact contact_of(const char *text) {
-    contact c = {text, strlen(text), {0}, 0, {{{0, 0, 0}}, {false, 0}, {false, 0}, {false, false, 0}}};
+    contact c = {text, strlen(text), {0}, 0, {{{0, 0, 0}}, {0, 0}, {0, 0}, {0, 0, 0}}};
     c.rows = ox_read(text, c.length, c.table, 8 * OX_ROW).rows;
     c.qso = ox_record_to_normal_qso(text, c.length, c.table, 8 * OX_ROW, 0, c.rows).qso;
     return c;
@@ -285,17 +289,21 @@ static bool same_qso(ox_qso a, ox_qso b) {
 }
 
 static void contacts(void) {
-    CHECK(ox_column(OX_TEXT("dxcc")) == OX_DXCC && ox_column(OX_TEXT("CALL")) == OX_CALL);
-    CHECK(ox_column(OX_TEXT("BAND_RX")) == OX_BAND_RX && ox_column(OX_TEXT("\377")) == OX_COLUMNS);
+    CHECK(ox_column(OX_TEXT("dxcc")).column == OX_DXCC && ox_column(OX_TEXT("CALL")).column == OX_CALL);
+    CHECK(ox_column(OX_TEXT("BAND_RX")).column == OX_BAND_RX && ox_column(NOTHING).column == OX_COLUMNS);
+    ox_column_answer bad = ox_column(OX_TEXT("DXCC\377"));
+    CHECK(bad.refusal == OX_NOT_UTF8 && bad.place == 4 && bad.column == 0);
+    bad = ox_column(TOO_LONG);
+    CHECK(bad.refusal == OX_TOO_LONG && bad.place == 0 && bad.column == 0);
 
     contact c = contact_of("<CALL:4>w1aw<BAND:3>40M<MODE:3>usb<FREQ:5>7.155<DXCC:3>291<NAME:5>Hiram<EOR>");
     ox_qso_answer mapped = ox_record_to_qso(c.text, c.length, c.table, 8 * OX_ROW, 0, c.rows);
-    CHECK(mapped.refusal == OX_ACCEPTED && mapped.qso.freq.given && mapped.qso.freq.hz == 7155000);
-    CHECK(mapped.qso.dxcc.given && !mapped.qso.dxcc.negative && mapped.qso.dxcc.size == 291);
+    CHECK(mapped.refusal == OX_ACCEPTED && mapped.qso.freq.given == 1 && mapped.qso.freq.hz == 7155000);
+    CHECK(mapped.qso.dxcc.given == 1 && !mapped.qso.dxcc.negative && mapped.qso.dxcc.size == 291);
     CHECK(!mapped.qso.freq_rx.given && mapped.qso.columns[OX_TIME_ON].kind == OX_ABSENT);
     CHECK(mapped.qso.columns[OX_CALL].kind == OX_AS_IT_STANDS && mapped.qso.columns[OX_CALL].start == 8);
     ox_qso_answer none = ox_record_to_qso(c.text, c.length, c.table, 8 * OX_ROW, 6, 5);
-    ox_qso empty = {{{0, 0, 0}}, {false, 0}, {false, 0}, {false, false, 0}};
+    ox_qso empty = {{{0, 0, 0}}, {0, 0}, {0, 0}, {0, 0, 0}};
     CHECK(none.refusal == OX_BAD_ROW && same_qso(none.qso, empty));
     CHECK(ox_record_to_qso(TOO_LONG, c.table, 8 * OX_ROW, 0, c.rows).refusal == OX_TOO_LONG);
 
@@ -321,8 +329,24 @@ static void contacts(void) {
     again = ox_normalize_qso(c.text, 3, mapped.qso);
     CHECK(again.refusal == OX_BAD_ROW && same_qso(again.qso, mapped.qso));
 
+    /* a flag that is neither 0 nor 1, and none of whose bytes is taken for one */
     char out[128];
     FILL(out);
+    for (int flag = 0; flag < 4; flag++) {
+        static const uint32_t odd[] = {2, 3, 255, 256, 257, 65536, UINT32_MAX};
+        for (size_t i = 0; i < sizeof odd / sizeof *odd; i++) {
+            ox_qso q = normal.qso;
+            *(flag == 0 ? &q.freq.given : flag == 1 ? &q.freq_rx.given : flag == 2 ? &q.dxcc.given : &q.dxcc.negative) =
+                odd[i];
+            again = ox_normalize_qso(c.text, c.length, q);
+            CHECK(again.refusal == OX_BAD_ROW && same_qso(again.qso, q));
+            ox_qso_written unwritten = ox_write_qso(c.text, c.length, q, c.table, 0, 0, out, sizeof out);
+            CHECK(unwritten.refusal == OX_BAD_ROW && same_qso(unwritten.qso, q) && IS_UNTOUCHED(out));
+            ox_told apart = ox_in_log(c.text, c.length, normal.qso, c.text, c.length, q);
+            CHECK(apart.refusal == OX_BAD_ROW && !apart.yes);
+        }
+    }
+
     uint32_t *name = c.table + 5 * OX_ROW; /* the sixth row: NAME */
     ox_qso_written back = ox_write_qso(c.text, c.length, normal.qso, name, OX_ROW, 1, out, 20);
     CHECK(back.refusal == OX_SHORT_OUTPUT && back.length == 0 && same_qso(back.qso, normal.qso) && IS_UNTOUCHED(out));
@@ -391,13 +415,25 @@ static void lists(void) {
                        OX_TEXT("40m"), OX_TEXT("SSB"))
     uint8_t before[sizeof list];
     memcpy(before, list, sizeof list);
+    CHECK(APPEND(sizeof list, 0, 0, 0, 7, 0, "20260301").refusal == OX_MALFORMED_LIST);
     CHECK(APPEND(sizeof list, 4, 0, 0, 7, 0, "20260301").refusal == OX_MALFORMED_LIST);
+    CHECK(APPEND(sizeof list, 5, 1, 0, 7, 0, "20260301").refusal == OX_MALFORMED_LIST);
+    CHECK(APPEND(sizeof list, 5, 4294967294, 0, 7, 0, "20260301").refusal == OX_MALFORMED_LIST);
     CHECK(APPEND(sizeof list, 5, 0, 0, 7, 16, "20260301").refusal == OX_MALFORMED_LIST);
     CHECK(APPEND(sizeof list, 5, 0, 0, 7, 0, "2026-3-1").refusal == OX_MALFORMED_LIST);
     CHECK(APPEND(sizeof list, 5, 0, 7, 7, 0, "20260301").refusal == OX_IDS_NOT_RISING);
     CHECK(APPEND(sizeof list, OX_LONGEST, 0, 0, 7, 0, "20260301").refusal == OX_TOO_LONG);
+    CHECK(APPEND(sizeof list, OX_LONGEST + 1, 0, 0, 7, 0, "20260301").refusal == OX_TOO_LONG);
     CHECK(APPEND(37, 5, 0, 0, 7, 0, "20260301").refusal == OX_SHORT_OUTPUT);
+    CHECK(ox_contacts_append(list, sizeof list, 5, 0, 0, 7, 0, TOO_LONG, OX_TEXT("20260301"), OX_TEXT("1200"), NOTHING,
+                             NOTHING).refusal == OX_TOO_LONG);
     CHECK(memcmp(before, list, sizeof list) == 0);
+    FILL(list); /* five bytes that are no list, and a count that cannot grow */
+    CHECK(APPEND(sizeof list, 5, 0xEEEEEEEE, 0, 7, 0, "20260301").refusal == OX_LIST_VERSION && IS_UNTOUCHED(list));
+    memset(list, 0xFF, 5);
+    list[0] = 1;
+    CHECK(APPEND(sizeof list, 5, UINT32_MAX, 0, 7, 0, "20260301").refusal == OX_MALFORMED_LIST && list[4] == 0xFF);
+    FILL(list);
 #undef APPEND
     size_t length = list_of_two(list, sizeof list);
     CHECK(length == 5 + 2 * (16 + 22) && list[4] == 2 && list[length] == 0xEE);
@@ -441,10 +477,12 @@ static void lists(void) {
     CHECK(mark.contacts == 1 && mark.largest == 4 && matches[0] == 2 && matches[1] == 0);
     FILL(matches);
     mark = ox_contacts_search(list, length, list, length, 1800, index, 3, matches, 1);
-    CHECK(mark.refusal == OX_SHORT_TABLE && matches[0] == 0);
+    CHECK(mark.refusal == OX_SHORT_TABLE && matches[0] == 0 && IS_ZERO(index));
     FILL(matches);
+    FILL(index);
     mark = ox_contacts_search(list, length, list, 7, 1800, index, 3, matches, 4);
-    CHECK(mark.refusal == OX_MALFORMED_LIST && IS_ZERO(matches) && index[0].id == 7);
+    CHECK(mark.refusal == OX_MALFORMED_LIST && IS_ZERO(matches) && IS_ZERO(index));
+    FILL(index);
     mark = ox_contacts_search(list, length - 1, list, length, 1800, index, 3, matches, 4);
     CHECK(mark.refusal == OX_MALFORMED_LIST && IS_ZERO(index));
     list[14] = 9; /* the first id becomes the second */
