@@ -6,18 +6,20 @@ use mathlib.Core.List.{List, [], _∷_}
 use Prim.Native.Nat.{ℕ, zero, suc, _<_}
 use native.Mathlib.Omega.{arith}
 use lib.ListN.{length, replicate, length-replicate}
-use borrow.Author.Tests.{lt-leb, eq-eqb}
+use lib.Dec.{leb}
+use borrow.Author.Tests.{lt-leb, leb-false, eq-eqb}
 use Rattle.text.specs.Utf8.{utf8, validUpTo}
-use Rattle.text.proofs.BoolLaws.{both-no}
+use Rattle.text.proofs.BoolLaws.{cases, both-no}
 use Rattle.text.proofs.AppendLaws.{Ascii, utf8-ascii}
 use Rattle.headers.specs.Answer.{Long, allUtf8}
 use Rattle.station.specs.Station.{all7}
-use Rattle.station.specs.Answer.{short, allShort, short7, stationBy, stationAnswer, BadRefused, LongRefused, BlankRefused}
+use Rattle.station.specs.Answer.{short, allShort, short7, stationBy, stationAnswer, BadRefused, LongRefused, ShortMeasured, BlankRefused}
 
 bad-refused : BadRefused
 unfolding BadRefused stationAnswer stationBy
 bad-refused call grid name state county cq itu room bad = rw bad refl
 
+-- ---- one above the limit
 long-is : (s : List ℕ) → 16777216 < length s → short s ≡ false
 unfolding short
 long-is s h = lt-leb (length s) 16777216 h
@@ -38,7 +40,31 @@ long-refused : LongRefused
 unfolding LongRefused stationAnswer stationBy
 long-refused call grid name state county cq itu room good long = rw (good, one-long call grid name state county cq itu long) refl
 
--- blanks are UTF-8, as no bytes are
+-- ---- all within it
+short-is : (s : List ℕ) → (16777216 < length s → ⊥) → short s ≡ true
+unfolding short
+short-is s h = cases (leb (length s) 16777216) (λ e. e) (λ e. absurd (h (leb-false (length s) 16777216 e)))
+
+none-long : (call grid name state county cq itu : List ℕ) → (Long (call ∷ grid ∷ name ∷ state ∷ county ∷ cq ∷ itu ∷ []) → ⊥)
+    → short7 call grid name state county cq itu ≡ true
+unfolding short7 allShort
+none-long call grid name state county cq itu h =
+    rw (
+      short-is call (λ l. h (inl l)),
+      short-is grid (λ l. h (inr (inl l))),
+      short-is name (λ l. h (inr (inr (inl l)))),
+      short-is state (λ l. h (inr (inr (inr (inl l))))),
+      short-is county (λ l. h (inr (inr (inr (inr (inl l)))))),
+      short-is cq (λ l. h (inr (inr (inr (inr (inr (inl l))))))),
+      short-is itu (λ l. h (inr (inr (inr (inr (inr (inr (inl l)))))))),
+    )
+    refl
+
+short-measured : ShortMeasured
+unfolding ShortMeasured stationAnswer stationBy
+short-measured call grid name state county cq itu room good h = rw (good, none-long call grid name state county cq itu h) refl
+
+-- ---- blanks are UTF-8, as no bytes are
 blanks-ascii : (n : ℕ) → Ascii (replicate n 32)
 blanks-ascii zero = tt
 blanks-ascii (suc n) = (omega arith, blanks-ascii n)

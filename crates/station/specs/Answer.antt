@@ -1,5 +1,5 @@
--- The answer of a station's fields: 11 for a text that is not UTF-8; 1 for a text above 16,777,216 bytes, though nothing of it may be
--- written; 1 for an output that is too long; 13 for one that does not fit.
+-- The answer of a station's fields: 11 for a text that is not UTF-8; 1 for a text above 16,777,216 bytes, also where it is blank and no
+-- field comes of it; 1 for an output that is too long; 13 for one that does not fit.
 use mathlib.Core.Path.{_≡_, refl}
 use mathlib.Core.Bool.{Bool, true, false}
 use mathlib.Core.List.{List, [], _∷_}
@@ -49,7 +49,14 @@ LongRefused =
     (call grid name state county cq itu : List ℕ) (room : ℕ) → all7 call grid name state county cq itu ≡ true
     → Long (call ∷ grid ∷ name ∷ state ∷ county ∷ cq ∷ itu ∷ []) → stationAnswer call grid name state county cq itu room ≡ Unwritten TooLong
 
--- so n blanks as grid, beside UTF-8 texts, though no byte of them would be written
+-- and of UTF-8 texts within it what is written decides
+unfoldable pub ShortMeasured : Type 0
+ShortMeasured =
+    (call grid name state county cq itu : List ℕ) (room : ℕ) → all7 call grid name state county cq itu ≡ true
+    → (Long (call ∷ grid ∷ name ∷ state ∷ county ∷ cq ∷ itu ∷ []) → ⊥)
+    → stationAnswer call grid name state county cq itu room ≡ fitted (Bytes (length (stationText call grid name state county cq itu))) room
+
+-- n blanks as grid, more than the limit, are refused with 1 beside UTF-8 texts, though no byte of them would be written
 unfoldable pub BlankRefused : Type 0
 BlankRefused =
     (call name state county cq itu : List ℕ) (n room : ℕ) → all7 call [] name state county cq itu ≡ true → 16777216 < n
