@@ -69,7 +69,7 @@ capped-fit k room = by (leb k 16777216) refl
     by false q = rw (← cap-large k (leb-false k 16777216 q), q) refl
 
 module _ (was w : List ℕ) (n : ℕ) (e : n ≡ capped (length w)) (f : Written) (ef : f ≡ fitted (Bytes n) (length was)) where
-  fit-is : f ≡ fitted (Bytes (length w)) (length was)
+  pub fit-is : f ≡ fitted (Bytes (length w)) (length was)
   fit-is = ef ∙ ap (λ (j : ℕ). fitted (Bytes j) (length was)) e ∙ capped-fit (length w) (length was)
 
   pub room : (m : ℕ) → f ≡ Bytes m → Room was 0 w

@@ -37,7 +37,7 @@ after a b w e = rw e (capped-twice b (length w))
 
 -- ---- one field more
 module _ (name value : List ℕ) where
-  value-in : length value ≤ length (fieldText (fieldAs name value))
+  pub value-in : length value ≤ length (fieldText (fieldAs name value))
   unfolding fieldText
   value-in = simp length-append (omega arith)
 

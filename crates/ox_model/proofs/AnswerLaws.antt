@@ -2,10 +2,11 @@
 use mathlib.Core.Path.{_≡_, refl, ap, _∙_}
 use mathlib.Core.List.{List}
 use Prim.Native.Nat.{ℕ}
-use Rattle.refusals.specs.Refusals.{numberOf}
+use Rattle.refusals.specs.Refusals.{numberOf, placeOf, ofText}
 use Rattle.refusals.specs.declared.Refusal.{Refusal}
 use Rattle.refusals.specs.declared.Verdict.{Verdict}
-use Rattle.refusals.specs.declared.Verdict.the-variants.{Refused}
+use Rattle.refusals.specs.declared.Verdict.the-variants.{Accepted, Refused}
+use Rattle.refusals.proofs.TextLaws.{too-long}
 use Rattle.tables.specs.declared.Found.{Found}
 use Rattle.tables.specs.declared.Found.the-variants.{At, Nothing}
 use Rattle.columns.specs.Columns.{columnNamed}
@@ -13,15 +14,31 @@ use Rattle.model.specs.Answer.{normalizedTo}
 use Rattle.model.specs.declared.Answer.{Answer}
 use Rattle.model.specs.declared.Qso.{Qso}
 use Rattle.mapping.specs.Mapping.{mappedTo, normalTo}
-use Rattle.ox_model.specs.Answers.{columnNumber, refusalOf, answerOf, mapAnswer, mapNormalAnswer, normalizeAnswer}
+use Rattle.ox_model.specs.Answers.{columnNumber, columnBy, columnAnswer, LongRefused, refusalOf, answerOf, mapAnswer, mapNormalAnswer, normalizeAnswer}
+use Rattle.ox_model.specs.declared.ColumnAnswer.{ColumnAnswer}
 use Rattle.ox_model.specs.declared.QsoAnswer.{QsoAnswer}
 
-module _ (name : List ℕ) (f : Found) (e : f ≡ columnNamed name) where
-  pub a-column : (k : ℕ) → f ≡ At k → k ≡ columnNumber (columnNamed name)
-  a-column k h = rw (← e, h) refl
+module _ (f : Found) where
+  pub a-column : (k : ℕ) → f ≡ At k → k ≡ columnNumber f
+  a-column k h = rw h refl
 
-  pub no-column : f ≡ Nothing → 13 ≡ columnNumber (columnNamed name)
-  no-column h = rw (← e, h) refl
+  pub no-column : f ≡ Nothing → 13 ≡ columnNumber f
+  no-column h = rw h refl
+
+module _ (name : List ℕ) (v : Verdict) (e : v ≡ ofText name) where
+  pub column-refused : (why : Refusal) (n p : ℕ) → v ≡ Refused why → n ≡ numberOf why → p ≡ placeOf why
+      → _≡_ {A = ColumnAnswer} (record { refusal = n; place = p; column = 0 }) (columnAnswer name)
+  unfolding columnAnswer columnBy
+  column-refused why n p h en ep = rw (← e, h, en, ep) refl
+
+  pub column-accepted : (f : Found) (k : ℕ) → v ≡ Accepted → f ≡ columnNamed name → k ≡ columnNumber f
+      → _≡_ {A = ColumnAnswer} (record { refusal = 0; place = 0; column = k }) (columnAnswer name)
+  unfolding columnAnswer columnBy
+  column-accepted f k h ef ek = rw (← e, h, ← ef, ek) refl
+
+long-refused : LongRefused
+unfolding LongRefused columnAnswer columnBy
+long-refused name h = rw (← too-long name h) refl
 
 pub refused-is : (v : Verdict) (why : Refusal) (n : ℕ) → v ≡ Refused why → n ≡ numberOf why → n ≡ refusalOf v
 refused-is v why n e h = rw e h

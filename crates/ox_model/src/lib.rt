@@ -1,7 +1,6 @@
 // A record's rows as a QSO over their text, and a QSO normalised. What is not said with an answer is 0.
 ghost use mathlib.Core.Path.{_≡_};
-ghost use Rattle.columns.specs.Columns.{columnNamed};
-ghost use Rattle.ox_model.specs.Answers.{columnNumber, refusalOf, answerOf, mapAnswer, mapNormalAnswer, normalizeAnswer};
+ghost use Rattle.ox_model.specs.Answers.{columnNumber, columnAnswer, refusalOf, answerOf, mapAnswer, mapNormalAnswer, normalizeAnswer};
 use model::Answer;
 use model::Qso;
 use refusals::Verdict;
@@ -16,14 +15,39 @@ pub struct QsoAnswer {
 }
 
 // The number of the column that a field's name names; 13 for an extra field.
-#[no_mangle]
-pub extern "C" fn ox_column(name: &[u8]) -> u32
-    ensures { λ r. ⌜ r ≡ columnNumber (columnNamed (now (name .entry))) ⌝ }
+#[repr(C)]
+pub struct ColumnAnswer {
+    pub refusal: u32,
+    pub place: usize,
+    pub column: u32,
+}
+
+fn column_number(found: Found) -> u32
+    ensures { λ r. ⌜ r ≡ columnNumber found ⌝ }
 {
-    let found = columns::column_of(name);
     match found {
         Found::At(k) => k,
         Found::Nothing => 13,
+    }
+}
+
+// A name is a plain text: one that is too long or no UTF-8 is refused, and is no extra field.
+#[no_mangle]
+pub extern "C" fn ox_column(name: &[u8]) -> ColumnAnswer
+    ensures { λ r. ⌜ r ≡ columnAnswer (now (name .entry)) ⌝ }
+{
+    let verdict = refusals::check_text(name);
+    match verdict {
+        Verdict::Refused(why) => ColumnAnswer {
+            refusal: refusals::number(why),
+            place: refusals::place(why),
+            column: 0,
+        },
+        Verdict::Accepted => ColumnAnswer {
+            refusal: 0,
+            place: 0,
+            column: column_number(columns::column_of(name)),
+        },
     }
 }
 

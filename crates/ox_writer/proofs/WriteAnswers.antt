@@ -10,10 +10,11 @@ use Rattle.refusals.specs.declared.Written.{Written}
 use Rattle.refusals.specs.declared.Written.the-variants.{Bytes, Unwritten}
 use Rattle.headers.specs.Headers.{journalHeader, exportHeader}
 use Rattle.headers.specs.Answer.{answerOf, allUtf8}
-use Rattle.station.specs.Station.{stationText, all7}
+use Rattle.station.specs.Station.{stationText}
+use Rattle.station.specs.Answer.{stationAnswer}
 use Rattle.writer.specs.Answer as writer
 use Rattle.ox_text.specs.declared.Written as c
-use Rattle.ox_writer.specs.Writing.{ofWritten, journalAnswer, exportAnswer, stationAnswer}
+use Rattle.ox_writer.specs.Writing.{ofWritten, journalAnswer, exportAnswer}
 
 module _ (w : Written) where
   pub written-bytes : (n : ℕ) → w ≡ Bytes n → _≡_ {A = c.Written} (record { refusal = 0; length = n }) (ofWritten w)
@@ -48,13 +49,10 @@ module _ (w : Written) (was : List ℕ) where
     unfolding exportAnswer
     export-output now q = rw (← e) q
 
-  module _ (call grid name state county cq itu : List ℕ)
-      (e : w ≡ answerOf (all7 call grid name state county cq itu) (stationText call grid name state county cq itu) (length was)) where
+  module _ (call grid name state county cq itu : List ℕ) (e : w ≡ stationAnswer call grid name state county cq itu (length was)) where
     pub station-answer : (r : c.Written) → r ≡ ofWritten w → r ≡ ofWritten (stationAnswer call grid name state county cq itu (length was))
-    unfolding stationAnswer
     station-answer r q = q ∙ ap ofWritten e
 
     pub station-output : (now : List ℕ) → now ≡ outputBy w was (stationText call grid name state county cq itu)
         → now ≡ outputBy (stationAnswer call grid name state county cq itu (length was)) was (stationText call grid name state county cq itu)
-    unfolding stationAnswer
     station-output now q = rw (← e) q

@@ -9,7 +9,6 @@ use Rattle.refusals.specs.declared.Written.{Written}
 use Rattle.refusals.specs.declared.Written.the-variants.{Bytes, Unwritten}
 use Rattle.headers.specs.Headers.{journalHeader, exportHeader}
 use Rattle.headers.specs.Answer.{answerOf, allUtf8}
-use Rattle.station.specs.Station.{stationText, all7}
 use Rattle.ox_text.specs.declared.Written as c
 
 -- how many bytes were written, or the refusal's number
@@ -22,10 +21,6 @@ journalAnswer room = fitted (Bytes (length journalHeader)) room
 
 unfoldable pub exportAnswer : List ℕ → List ℕ → List ℕ → ℕ → Written
 exportAnswer version program created room = answerOf (allUtf8 version program created) (exportHeader version program created) room
-
-unfoldable pub stationAnswer : List ℕ → List ℕ → List ℕ → List ℕ → List ℕ → List ℕ → List ℕ → ℕ → Written
-stationAnswer call grid name state county cq itu room =
-    answerOf (all7 call grid name state county cq itu) (stationText call grid name state county cq itu) room
 
 -- the journal's header takes 45 bytes
 journal-fits : ofWritten (journalAnswer 45) ≡ record { refusal = 0; length = 45 }

@@ -6,7 +6,8 @@ ghost use Rattle.writer.specs.Answer.{answerOf, outputOf};
 ghost use Rattle.refusals.specs.Written.{outputBy};
 ghost use Rattle.headers.specs.Headers.{journalHeader, exportHeader};
 ghost use Rattle.station.specs.Station.{stationText};
-ghost use Rattle.ox_writer.specs.Writing.{ofWritten, journalAnswer, exportAnswer, stationAnswer};
+ghost use Rattle.station.specs.Answer.{stationAnswer};
+ghost use Rattle.ox_writer.specs.Writing.{ofWritten, journalAnswer, exportAnswer};
 use ox_text::Written;
 use refusals::number;
 

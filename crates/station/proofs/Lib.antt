@@ -1,4 +1,5 @@
 pub mod TextLaws
 pub mod SizeLaws
 pub mod AnswerLaws
+pub mod LongTexts
 pub mod Determined

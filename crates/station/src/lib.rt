@@ -5,8 +5,9 @@ ghost use Prim.Native.Nat.{_≤_};
 ghost use lib.ListN.{length};
 ghost use Rattle.output.specs.Put.{Put, Room};
 ghost use Rattle.refusals.specs.Written.{outputBy};
-ghost use Rattle.headers.specs.Answer.{capped, cappedAfter, answerOf};
+ghost use Rattle.headers.specs.Answer.{capped, cappedAfter};
 ghost use Rattle.station.specs.Station.{myCounty, myCqZone, myGridsquare, myItuZone, myName, myState, operator, stationCallsign, stationText, filled, all7};
+ghost use Rattle.station.specs.Answer.{short, allShort, short7, stationAnswer};
 use refusals::Refusal;
 use refusals::Written;
 
@@ -140,6 +141,36 @@ fn are_all_utf8(
     )
 }
 
+fn is_short(s: &[u8]) -> bool
+    ensures { λ r. ⌜ r ≡ short (now (s .entry)) ⌝ }
+{
+    s.len() <= refusals::LONGEST
+}
+
+fn are_short(a: &[u8], b: &[u8], c: &[u8]) -> bool
+    ensures { λ r. ⌜ r ≡ allShort (now (a .entry)) (now (b .entry)) (now (c .entry)) ⌝ }
+{
+    text::all(is_short(a), text::all(is_short(b), is_short(c)))
+}
+
+// The texts themselves, not what is written of them: a blank one is trimmed away, and is measured nowhere else.
+fn are_all_short(
+    call: &[u8],
+    grid: &[u8],
+    name: &[u8],
+    state: &[u8],
+    county: &[u8],
+    cq: &[u8],
+    itu: &[u8],
+) -> bool
+    ensures { λ r. ⌜ r ≡ short7 (now (call .entry)) (now (grid .entry)) (now (name .entry)) (now (state .entry)) (now (county .entry)) (now (cq .entry)) (now (itu .entry)) ⌝ }
+{
+    text::all(
+        are_short(call, grid, name),
+        text::all(are_short(state, county, cq), is_short(itu)),
+    )
+}
+
 // As the original's `Station::my_adif_fields`, in field form; an absent text is an empty one.
 pub fn write_station(
     call: &[u8],
@@ -151,11 +182,14 @@ pub fn write_station(
     itu: &[u8],
     out: &mut [u8],
 ) -> Written
-    ensures { λ r. ⌜ r ≡ answerOf (all7 (now (call .entry)) (now (grid .entry)) (now (name .entry)) (now (state .entry)) (now (county .entry)) (now (cq .entry)) (now (itu .entry))) (stationText (now (call .entry)) (now (grid .entry)) (now (name .entry)) (now (state .entry)) (now (county .entry)) (now (cq .entry)) (now (itu .entry))) (length (now (out .entry))) ⌝ }
+    ensures { λ r. ⌜ r ≡ stationAnswer (now (call .entry)) (now (grid .entry)) (now (name .entry)) (now (state .entry)) (now (county .entry)) (now (cq .entry)) (now (itu .entry)) (length (now (out .entry))) ⌝ }
     ensures { λ r. ⌜ now (out .exit) ≡ outputBy r (now (out .entry)) (stationText (now (call .entry)) (now (grid .entry)) (now (name .entry)) (now (state .entry)) (now (county .entry)) (now (cq .entry)) (now (itu .entry))) ⌝ }
 {
     if !are_all_utf8(call, grid, name, state, county, cq, itu) {
         return Written::Unwritten(Refusal::BadRow);
+    }
+    if !are_all_short(call, grid, name, state, county, cq, itu) {
+        return Written::Unwritten(Refusal::TooLong);
     }
     let size = station_size(call, grid, name, state, county, cq, itu);
     let fits = refusals::fit(Written::Bytes(size), out.len());
