@@ -1,7 +1,7 @@
 #!/bin/sh
 # What the crates export is what include/oxbreathe.h and host/oxbreathe/sys.rs declare, by the name, the place and the type of each
-# parameter and field; each call has an example in the header and is made by the C program's own test; and each safe function of the
-# Rust crate is given hostile bytes.
+# parameter and field; each call has an example in the header and is made by the C program's own test; each that takes a text is asked for
+# its limits; and each safe function of the Rust crate is given hostile bytes.
 set -u
 cd "$(dirname "$0")/.." || exit 1
 header=include/oxbreathe.h sys=host/oxbreathe/sys.rs
@@ -72,6 +72,11 @@ passed=$((passed + ${1:-0})) failed=$((failed + ${2:-1}))
 for call in $exported; do
     has "$call" 'has no example in' "^ \*     .*\<$call(" $header
     has "$call" 'is not called in' "\<$call(" host/importer/selftest.c
+done
+# those that take a text or a list
+for call in $(awk '/^pub extern "C" fn/ {call = $5; sub(/\(.*/, "", call)} call != "" && /[a-z]: &\[u8\]/ {print call; call = ""} /^\{/ {call = ""}' \
+    crates/ox_*/src/*.rt); do
+    has "$call" 'is not asked for its limits in' "sys::${call#ox_}(" host/compare/limits.rs
 done
 for function in $safe; do
     has "$function" 'is not called in' "[:.]$function\>" host/compare/hostile.rs

@@ -392,9 +392,8 @@ fn indexes(g: &mut Group) {
 
 /// What searching is to leave: the answer, the index and the numbers found; both tables zero after any refusal.
 fn searched(list: &[u8], other: &[u8], window: i64, rooms: (usize, usize)) -> (MarkAnswer, Vec<Record>, Vec<u64>) {
-    let refused = |refusal| {
-        (MarkAnswer { refusal, ..MarkAnswer::default() }, vec![Record::default(); rooms.0], vec![0; rooms.1])
-    };
+    let refused =
+        |refusal| (MarkAnswer { refusal, ..MarkAnswer::default() }, vec![Record::default(); rooms.0], vec![0; rooms.1]);
     let (built, index) = indexed(list, rooms.0);
     let answer = marked(other);
     match (built.refusal, answer.refusal, answer.contacts > rooms.1) {
@@ -548,10 +547,11 @@ fn headings(g: &mut Group) {
         let answer = sys::contacts_append(
             &mut out, used, told, largest, contact.id, contact.services, call, date, time, band, mode,
         );
-        g.same((&before[..before.len().min(9)], used as u64, told as u64), (answer, out == expected), (
-            AppendAnswer { refusal, length },
-            true,
-        ));
+        g.same(
+            (&before[..before.len().min(9)], used as u64, told as u64),
+            (answer, out == expected),
+            (AppendAnswer { refusal, length }, true),
+        );
         refusal
     };
     let mut seen = std::collections::BTreeSet::new();
@@ -566,7 +566,8 @@ fn headings(g: &mut Group) {
         before.resize(g.random.pick(&[0, 1, 4, 5, 6, 60, 100]), 7);
         let used = g.random.pick(&[0, 1, 3, 4, 5, 5, 5, 6, 50, 99, 101, usize::MAX]);
         let count = before.get(1..5).map_or(0, |b| u32::from_be_bytes(b.try_into().unwrap())) as usize;
-        let told = g.random.pick(&[count, count, count, 0, count ^ 1, u32::MAX as usize - 1, u32::MAX as usize, usize::MAX]);
+        let told =
+            g.random.pick(&[count, count, count, 0, count ^ 1, u32::MAX as usize - 1, u32::MAX as usize, usize::MAX]);
         let mut contact = sound.clone();
         if g.random.below(6) == 0 {
             spoil(&mut g.random, &mut contact);

@@ -7,6 +7,7 @@ use crate::files::EMPTY;
 use crate::harness::{Group, Run, unless_panics};
 use original::adif::{AdifRecord, write_record};
 use original::adif::{adif_header, hz_to_mhz_string, mhz_string_to_hz, parse_adif, parse_adif_to_qsos, qso_to_record};
+use original::model::Station;
 use original::rusqlite::Connection;
 use original::{dedupe, import};
 use oxbreathe::LONGEST;
@@ -96,7 +97,12 @@ fn writing(g: &mut Group) {
     for rows in [vec![2, 0, 1, 1, 1], vec![1, 0, 1, 1, 2], vec![1, 1, 1, 0, 0, 1, 0, 1, 0, 0]] {
         g.same("rows", written("ab", &rows), Err(11));
     }
+    // a text of a station that is too long, of blanks alone: rigflow has no field of it
     let mut out = [9; 44];
+    let blank = Station { station_call: "W1AW".to_string(), gridsquare: Some(long()), ..Station::default() };
+    g.same("a station", blank.my_adif_fields().len(), 2);
+    let answer = sys::station_fields(b"W1AW", long().as_bytes(), b"", b"", b"", b"", b"", &mut out);
+    g.same("a station", (answer.refusal, out), (1, [9; 44]));
     g.same("44 bytes", (sys::journal_header(&mut out).refusal, out.iter().all(|&b| b == 9)), (13, true));
     g.same("45 bytes", adif_header().len(), 45);
 }
@@ -131,6 +137,13 @@ fn contacts(g: &mut Group) {
     outside.columns[0] = Place { kind: 1, start: 0, len: 2 };
     g.same("a place past the end", sys::normalize_qso(b"A", outside).refusal, 11);
     g.same("a place past the end", sys::in_log(b"A", outside, b"A", outside).refusal, 11);
+    let mut flagged = sys::Qso::default();
+    flagged.freq.given = 2;
+    g.same("a flag of 2", sys::normalize_qso(b"A", flagged).refusal, 11);
+    g.same("a flag of 2", sys::write_qso(b"A", flagged, &[], 0, &mut [0; 99]).refusal, 11);
+    g.same("a flag of 2", sys::is_duplicate(b"A", flagged, b"A", flagged, 0).refusal, 11);
+    let bad = sys::column(b"\xFF");
+    g.same("a name", (bad.refusal, bad.place, sys::column(long().as_bytes()).refusal), (2, 0, 1));
 }
 
 fn duplicates(g: &mut Group) {
@@ -166,6 +179,18 @@ fn lists(g: &mut Group) {
     let two = contacts::written(&[contact(7, "20260301"), contact(8, "20260231")]);
     let mut index = [contacts::USED; 1];
     g.same("an index of one", (sys::contacts_index(&two, &mut index).refusal, index), (19, [Record::default()]));
+    let (mut index, mut found) = ([contacts::USED; 2], [7; 1]);
+    let answer = sys::contacts_search(&two, &two, 0, &mut index, &mut found);
+    g.same("numbers for one", (answer.refusal, index, found), (19, [Record::default(); 2], [0]));
+    let append = |list: [u8; 5], told: usize| {
+        let mut out = [9; 64];
+        out[..5].copy_from_slice(&list);
+        let before = out;
+        let answer = sys::contacts_append(&mut out, 5, told, 0, 1, 0, b"W1AW", b"20260301", b"1200", b"40m", b"CW");
+        (answer.refusal, out == before)
+    };
+    g.same("no list", [append([3; 5], 0), append(EMPTY, u32::MAX as usize - 1)], [(16, true), (17, true)]);
+    g.same("a list", append(EMPTY, 0), (0, false));
     // the first contact is found by itself, the second, of no day, by nothing
     let (mut index, mut found) = ([contacts::USED; 2], [7; 2]);
     let answer = sys::contacts_search(&two, &two, i64::MAX, &mut index, &mut found);

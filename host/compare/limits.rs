@@ -66,8 +66,7 @@ fn contact() -> Qso {
 
 const CALL: &[u8] = b"W1AW";
 const ROW: [u32; 5] = [1, 0, 2, 2, 2];
-const LIST: &[u8] =
-    b"\x01\0\0\0\x01\0\x23\0\0\0\0\0\0\0\x07\0\x04W1AW\x0820260301\x041200\x0340m\x02CW";
+const LIST: &[u8] = b"\x01\0\0\0\x01\0\x23\0\0\0\0\0\0\0\x07\0\x04W1AW\x0820260301\x041200\x0340m\x02CW";
 const FILE: &[u8] = b"<CALL:4>W1AW <QSO_DATE:8>20260301 <TIME_ON:4>1200 <BAND:3>40M <MODE:3>USB <EOR>";
 
 const CALLS: &[Call] = &[
@@ -114,9 +113,7 @@ const CALLS: &[Call] = &[
     }),
     placed("in_log", &[CALL; 2], |t| told!(sys::in_log(t[0], contact(), t[1], contact()), Told)),
     placed("in_file", &[CALL; 2], |t| told!(sys::in_file(t[0], contact(), t[1], contact()), Told)),
-    placed("same_natural_key", &[CALL; 2], |t| {
-        told!(sys::same_natural_key(t[0], contact(), t[1], contact()), Told)
-    }),
+    placed("same_natural_key", &[CALL; 2], |t| told!(sys::same_natural_key(t[0], contact(), t[1], contact()), Told)),
     placed("within_window", &[CALL; 2], |t| told!(sys::within_window(t[0], contact(), t[1], contact(), 9), Told)),
     placed("is_duplicate", &[CALL; 2], |t| told!(sys::is_duplicate(t[0], contact(), t[1], contact(), 9), Told)),
     header("export_header", &[b"3.1.6", b"0.1", b"20260301 120000"], |t| {
@@ -176,10 +173,8 @@ fn planned(text: &[u8], list: &[u8]) -> (u32, bool) {
     let (mut table, mut index, mut fates, mut confirmations) = ([7; 31], [USED; 3], [[7; 28]; 3], [[7; 5]; 3]);
     let (refusal, rest) =
         told!(sys::plan(text, list, 9, false, &mut table, &mut index, &mut fates, &mut confirmations), PlanAnswer);
-    let zero = table == [0; 31]
-        && index == [Record::default(); 3]
-        && fates == [[0; 28]; 3]
-        && confirmations == [[0; 5]; 3];
+    let zero =
+        table == [0; 31] && index == [Record::default(); 3] && fates == [[0; 28]; 3] && confirmations == [[0; 5]; 3];
     (refusal, rest && (refusal == 0 || zero))
 }
 
