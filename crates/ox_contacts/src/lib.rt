@@ -136,7 +136,7 @@ pub extern "C" fn ox_contacts_start(out: &mut [u8]) -> AppendAnswer
     of_appended(listwriter::start(out))
 }
 
-// A contact behind a list of `used` bytes, whose mark is told.
+// A contact behind a list of `used` bytes, whose mark is told. Of the list only the heading is looked at.
 #[no_mangle]
 pub extern "C" fn ox_contacts_append(
     out: &mut [u8],
@@ -151,7 +151,7 @@ pub extern "C" fn ox_contacts_append(
     band: &[u8],
     mode: &[u8],
 ) -> AppendAnswer
-    ensures { λ r. ⌜ r ≡ ofAppended (appendAs used contacts largest (contact id services (now (call .entry)) (now (date .entry)) (now (time .entry)) (now (band .entry)) (now (mode .entry))) (length (now (out .entry)))) ⌝ }
+    ensures { λ r. ⌜ r ≡ ofAppended (appendAs used contacts largest (contact id services (now (call .entry)) (now (date .entry)) (now (time .entry)) (now (band .entry)) (now (mode .entry))) (now (out .entry))) ⌝ }
     ensures { λ _. ⌜ now (out .exit) ≡ appendAfter used contacts largest (contact id services (now (call .entry)) (now (date .entry)) (now (time .entry)) (now (band .entry)) (now (mode .entry))) (now (out .entry)) ⌝ }
 {
     of_appended(listwriter::append(
