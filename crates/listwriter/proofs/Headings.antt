@@ -14,7 +14,6 @@ use Rattle.refusals.specs.declared.Refusal.the-variants.{OtherVersion, Malforme
 use Rattle.refusals.specs.declared.Verdict.the-variants.{Accepted, Refused as Unheaded}
 use Rattle.contacts.specs.Contacts.{Contact, contact, soundHead, soundTexts, sound, entryText, largest}
 use Rattle.contacts.specs.Lists.{countOf, listedAs}
-use Rattle.contacts.specs.declared.Listed.{Listed}
 use Rattle.contacts.specs.declared.Listed.the-variants.{Refused}
 use Rattle.contacts.proofs.ListLaws.{accepted, list-none, list-other, list-short}
 use Rattle.listwriter.specs.Append.{longTexts, isLong, headingOf, placedAs, enteredAs, headedBy, appendAs}

@@ -5,7 +5,7 @@ use Prim.Native.Nat.{ℕ}
 use Rattle.text.specs.Ascii.{ascii}
 use Rattle.text.specs.Walk.{lead}
 use Rattle.text.specs.Utf8.{charLen, longChar, second3, second4, validUpTo, utf8}
-use Rattle.refusals.specs.declared.Refusal.the-variants.{MalformedList, ShortTable}
+use Rattle.refusals.specs.declared.Refusal.the-variants.{ShortTable}
 use Rattle.contacts.specs.Contacts.{plain, isDate, isTime, soundHead, soundTexts, sound}
 use Rattle.contacts.specs.Lists.{numberAt, textAt, after, callAt, dateAt, timeAt, bandAt, modeAt, endAt, idAt, servicesAt, contactAt, fits, goodAt, entriesFrom, countOf, listedAs}
 use Rattle.contacts.specs.declared.Listed.the-variants.{Marked, Refused}
@@ -28,7 +28,11 @@ kept : indexLeft seven seven 1 1 ≡ indexOf seven 1
 unfolding indexLeft indexBy indexedBy indexedAs searchedBy searchedAs listedAs entriesFrom goodAt fits contactAt countOf idAt servicesAt callAt dateAt timeAt bandAt modeAt endAt after textAt numberAt plain isDate isTime soundHead soundTexts sound lead charLen longChar second3 second4 validUpTo utf8
 kept = refl
 
--- no bytes are no list: the other one is refused, and the index of the first is gone; so it is where no number is lent
+-- no bytes are no list: where they stand for either, the index is zero; and so it is where no number is lent
+list-refused : indexLeft [] seven 1 1 ≡ noRow ∷ []
+unfolding indexLeft indexBy indexedBy indexedAs searchedBy searchedAs listedAs
+list-refused = refl
+
 other-refused : indexLeft seven [] 1 1 ≡ noRow ∷ []
 unfolding indexLeft indexBy indexedBy indexedAs searchedBy searchedAs listedAs entriesFrom goodAt fits contactAt countOf idAt servicesAt callAt dateAt timeAt bandAt modeAt endAt after textAt numberAt plain isDate isTime soundHead soundTexts sound lead charLen longChar second3 second4 validUpTo utf8
 other-refused = refl
