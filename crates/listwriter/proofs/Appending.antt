@@ -2,7 +2,7 @@
 use mathlib.Core.Path.{_≡_, refl, sym, ap, _∙_}
 use mathlib.Core.Bool.{true}
 use mathlib.Core.List.{List, [], _∷_, _++_, append-assoc, append-nil}
-use Prim.Native.Nat.{ℕ, zero, suc, _+_, _≤_, _<_}
+use Prim.Native.Nat.{ℕ, _+_, _≤_, _<_}
 use native.Mathlib.Omega.{arith}
 use lib.ListN.{length, take, drop, length-append}
 use lib.Seq.{sets, sets-eq, take-at, drop-at}
@@ -12,23 +12,27 @@ use Rattle.text.specs.Pick.{both}
 use Rattle.text.proofs.BoolLaws.{cases, both-left, both-right}
 use Rattle.refusals.specs.declared.Refusal.{Refusal}
 use Rattle.refusals.specs.declared.Refusal.the-variants.{TooLong, ShortOutput, MalformedList, IdsNotRising}
+use Rattle.refusals.specs.declared.Verdict.{Verdict}
+use Rattle.refusals.specs.declared.Verdict.the-variants.{Accepted, Refused as Unheaded}
 use Rattle.contacts.specs.Contacts.{Contact, idOf, sound, soundFrom, bytesOf, entryText, entriesText, listText, largest}
 use Rattle.contacts.specs.Lists.{Says}
-use Rattle.listwriter.specs.Append.{placedAs, growing, appendAs, appendBy, appendAfter}
+use Rattle.listwriter.specs.Append.{isLong, headingOf, placedAs, enteredAs, headedBy, appendAs, appendBy, appendAfter}
+use Rattle.listwriter.specs.declared.Appended.{Appended}
 use Rattle.listwriter.specs.declared.Appended.the-variants.{Bytes, Refused}
 use Rattle.listwriter.proofs.ReadBack.{bytes-length, lastOf, largest-is}
+use Rattle.listwriter.proofs.HeadingLaws.{front-length}
 
 refused-bytes : {P : Type 0} (n : ℕ) (why : Refusal) → Refused why ≡ Bytes n → P
 refused-bytes n why e = absurd (let z : _≡_ {A = ℕ} 0 1 = cc in omega arith)
 
 -- what an answer that is a length tells
-pub record Taken (used top n : ℕ) (c : Contact) (room : ℕ) : Type 0 where
-  pub from-five : 5 ≤ used
+pub record Taken (used count top n : ℕ) (c : Contact) (was : List ℕ) : Type 0 where
+  pub heading : headingOf (take used was) count ≡ Accepted
   pub good : sound c ≡ true
   pub above : top < idOf c
   pub end : used + length (entryText c) ≡ n
   pub short : n ≤ 16777216
-  pub fits : n ≤ room
+  pub fits : n ≤ length was
 
 placed : (end room n : ℕ) → placedAs end room ≡ Bytes n → (end ≡ n) × (end ≤ 16777216) × (end ≤ room)
 unfolding placedAs
@@ -39,24 +43,31 @@ placed end room n e =
     (λ v. refused-bytes n ShortOutput (rw (u, v) at e)))
     (λ u. refused-bytes n TooLong (rw u at e))
 
-pub taken : (used count top : ℕ) (c : Contact) (room n : ℕ) → appendAs used count top c room ≡ Bytes n → Taken used top n c room
-unfolding appendAs growing
-taken used count top c room n e =
-    cases (growing used count)
-    (λ o. cases (sound c)
+behind-heading : (v : Verdict) (r : Appended) (n : ℕ) → headedBy v r ≡ Bytes n → (v ≡ Accepted) × (r ≡ Bytes n)
+unfolding headedBy
+behind-heading Accepted r n e = (refl, e)
+behind-heading (Unheaded why) r n e = refused-bytes n why e
+
+pub taken : (used count top : ℕ) (c : Contact) (was : List ℕ) (n : ℕ) → appendAs used count top c was ≡ Bytes n → Taken used count top n c was
+unfolding appendAs enteredAs
+taken used count top c was n e =
+    cases (isLong used c)
+    (λ l. refused-bytes n TooLong (rw l at e))
+    (λ l. let h = behind-heading (headingOf (take used was) count) (enteredAs used top c (length was)) n (rw l at e) in
+    let q : enteredAs used top c (length was) ≡ Bytes n = h .1 in
+    cases (sound c)
     (λ g. cases (ltb top (idOf c))
-    (λ a. let p = placed (used + length (entryText c)) room n (rw (o, g, a) at e) in
+    (λ a. let p = placed (used + length (entryText c)) (length was) n (rw (g, a) at q) in
     record {
-      from-five = leb-true 5 used (both-left (leb 5 used) _ (both-left (both (leb 5 used) (leb used 16777216)) _ o));
+      heading = h .0;
       good = g;
       above = ltb-true top (idOf c) a;
       end = p .0;
       short = omega (arith, p .0, p .1);
       fits = omega (arith, p .0, p .2);
     })
-    (λ a. refused-bytes n IdsNotRising (rw (o, g, a) at e)))
-    (λ g. refused-bytes n MalformedList (rw (o, g) at e)))
-    (λ o. refused-bytes n MalformedList (rw o at e))
+    (λ a. refused-bytes n IdsNotRising (rw (g, a) at q)))
+    (λ g. refused-bytes n MalformedList (rw g at q)))
 
 -- one more sound contact, above the last
 sound-more : (cs : List Contact) (c : Contact) (last : ℕ) → soundFrom last cs ≡ true → sound c ≡ true → lastOf last cs < idOf c → soundFrom last (cs ++ (c ∷ [])) ≡ true
@@ -72,9 +83,9 @@ unfolding entriesText
 entries-more [] c = append-nil (entryText c)
 entries-more (d ∷ cs) c = ap (λ (r : List ℕ). entryText d ++ r) (entries-more cs c) ∙ sym (append-assoc (entryText d) (entriesText cs) (entryText c))
 
-module _ (was : List ℕ) (cs : List Contact) (c : Contact) (used n : ℕ) (S : Says (take used was) cs) (u : used ≤ length was) (e : appendAs used (length cs) (largest cs) c (length was) ≡ Bytes n) where
-  T : Taken used (largest cs) n c (length was)
-  T = taken used (length cs) (largest cs) c (length was) n e
+module _ (was : List ℕ) (cs : List Contact) (c : Contact) (used n : ℕ) (S : Says (take used was) cs) (u : used ≤ length was) (e : appendAs used (length cs) (largest cs) c was ≡ Bytes n) where
+  T : Taken used (length cs) (largest cs) n c was
+  T = taken used (length cs) (largest cs) c was n e
 
   abbrev behind : List ℕ
   behind = drop (used + length (entryText c)) was
@@ -108,7 +119,7 @@ module _ (was : List ℕ) (cs : List Contact) (c : Contact) (used n : ℕ) (S : 
   append-says =
       let p : List ℕ = (1 ∷ bytesOf 4 (length cs + 1)) ++ (entriesText cs ++ entryText c) in
       let w : (1 ∷ bytesOf 4 (length cs + 1)) ++ rest ≡ p ++ behind = simp append-assoc in
-      let k : length (take used was) ≡ used = take-length was used u in
+      let k : used ≡ length (take used was) = front-length was used u in
       let z : length p ≡ n = (length-append (1 ∷ bytesOf 4 (length cs + 1)) (entriesText cs ++ entryText c)) ∙ omega (arith, bytes-length 4 (length cs + 1), bytes-length 4 (length cs), length-append (entriesText cs) (entryText c), ap length (S .written), length-append (1 ∷ bytesOf 4 (length cs)) (entriesText cs), k, T .end) in
       let j : length (cs ++ (c ∷ [])) ≡ length cs + 1 = length-append cs (c ∷ []) in
       let q : take n (appendAfter used (length cs) (largest cs) c was) ≡ p = rw e (ap (take n) (counted-up ∙ w) ∙ take-at p behind n z) in
@@ -117,8 +128,3 @@ module _ (was : List ℕ) (cs : List Contact) (c : Contact) (used n : ℕ) (S : 
         written = q ∙ rw (j, entries-more cs c) refl;
         allSound = sound-more cs c 0 (S .allSound) (T .good) (omega (arith, T .above, largest-is cs (S .allSound)));
       }
-    where
-      take-length : (l : List ℕ) (m : ℕ) → m ≤ length l → length (take m l) ≡ m
-      take-length l zero h = refl
-      take-length [] (suc m) h = absurd (omega arith)
-      take-length (x ∷ l) (suc m) h = ap suc (take-length l m (omega arith))

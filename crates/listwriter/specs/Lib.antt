@@ -1,3 +1,4 @@
 pub mod Append
 pub mod Parts
+pub mod Headings
 pub mod Examples

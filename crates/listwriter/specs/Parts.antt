@@ -4,7 +4,7 @@ use mathlib.Core.List.{List, [], _∷_, _++_}
 use Prim.Native.Nat.{ℕ, _+_, _<_}
 use lib.ListN.{length}
 use Rattle.contacts.specs.Contacts.{Contact, bytesOf, counted, entryText}
-use Rattle.listwriter.specs.Append.{placedAs, appendBy}
+use Rattle.listwriter.specs.Append.{placedAs, enteredAs, appendBy}
 use Rattle.listwriter.specs.declared.Appended.{Appended}
 
 abbrev pub pairText : List ℕ → List ℕ → List ℕ
@@ -31,3 +31,7 @@ pub record Counted (call date time band mode : List ℕ) : Type 0 where
 -- the entry stands behind `used` bytes, or there is no room
 unfoldable pub Behind : List ℕ → List ℕ → ℕ → ℕ → Contact → Appended → Type 0
 Behind was now used count c r = (r ≡ placedAs (used + length (entryText c)) (length was)) × (now ≡ appendBy r used count c was)
+
+-- the same of a contact that is tested first
+unfoldable pub Entered : List ℕ → List ℕ → ℕ → ℕ → ℕ → Contact → Appended → Type 0
+Entered was now used count top c r = (r ≡ enteredAs used top c (length was)) × (now ≡ appendBy r used count c was)

@@ -1,13 +1,15 @@
 // Contacts written as a list, one behind the other: a list is begun, and each contact appended to it.
 ghost use mathlib.Core.Path.{_≡_};
 ghost use Prim.Native.Nat.{_+_, _≤_, _<_};
-ghost use lib.ListN.{length};
+ghost use lib.ListN.{length, take};
 ghost use Rattle.output.specs.Put.{Put, Room};
 ghost use Rattle.contacts.specs.Contacts.{contact, bytesOf, counted, entryText};
-ghost use Rattle.listwriter.specs.Append.{startAs, startAfter, growing, appendAs, appendAfter};
-ghost use Rattle.listwriter.specs.Parts.{pairText, textsText, headText, bodySize, Counted, Behind};
+ghost use Rattle.contacts.specs.Lists.{numberAt, countOf};
+ghost use Rattle.listwriter.specs.Append.{startAs, startAfter, longTexts, headingOf, appendAs, appendAfter};
+ghost use Rattle.listwriter.specs.Parts.{pairText, textsText, headText, bodySize, Counted, Behind, Entered};
 use refusals::LONGEST;
 use refusals::Refusal;
+use refusals::Verdict;
 
 // How many bytes the list now has.
 pub enum Appended {
@@ -15,7 +17,9 @@ pub enum Appended {
     Refused(Refusal),
 }
 
-// Where the entries begin, and how many contacts a list can count.
+// The version of lists, where the entries begin, and how many contacts a list can count.
+const VERSION: u8 = 1;
+
 const ENTRIES: usize = 5;
 
 const MOST: usize = 4_294_967_295;
@@ -130,15 +134,8 @@ fn put_behind(
     Appended::Bytes(end)
 }
 
-// Bytes that can be a list, with a count that can grow.
-fn can_grow(used: usize, contacts: usize) -> bool
-    ensures { λ r. ⌜ r ≡ growing used contacts ⌝ }
-{
-    text::all(text::all(ENTRIES <= used, used <= LONGEST), contacts < MOST)
-}
-
-// A contact behind a list of `used` bytes that has this mark.
-pub fn append(
+// A contact behind `used` bytes, if it is sound and its id rises.
+fn enter(
     out: &mut [u8],
     used: usize,
     contacts: usize,
@@ -151,12 +148,9 @@ pub fn append(
     band: &[u8],
     mode: &[u8],
 ) -> Appended
-    ensures { λ r. ⌜ r ≡ appendAs used contacts largest (contact id services (now (call .entry)) (now (date .entry)) (now (time .entry)) (now (band .entry)) (now (mode .entry))) (length (now (out .entry))) ⌝ }
-    ensures { λ _. ⌜ now (out .exit) ≡ appendAfter used contacts largest (contact id services (now (call .entry)) (now (date .entry)) (now (time .entry)) (now (band .entry)) (now (mode .entry))) (now (out .entry)) ⌝ }
+    requires { ⌜ (5 ≤ used) × (used ≤ 16777216) × (contacts < 4294967295) ⌝ }
+    ensures { λ r. ⌜ Entered (now (out .entry)) (now (out .exit)) used contacts largest (contact id services (now (call .entry)) (now (date .entry)) (now (time .entry)) (now (band .entry)) (now (mode .entry))) r ⌝ }
 {
-    if !can_grow(used, contacts) {
-        return Appended::Refused(Refusal::MalformedList);
-    }
     let head = contacts::is_sound_head(id, services);
     let texts = contacts::is_sound_texts(call, date, time, band, mode);
     if !text::all(head, texts) {
@@ -177,6 +171,109 @@ pub fn append(
         band,
         mode,
     )
+}
+
+fn are_long(call: &[u8], date: &[u8], time: &[u8], band: &[u8], mode: &[u8]) -> bool
+    ensures { λ r. ⌜ r ≡ longTexts (now (call .entry)) (now (date .entry)) (now (time .entry)) (now (band .entry)) (now (mode .entry)) ⌝ }
+{
+    let last = text::any(LONGEST < band.len(), LONGEST < mode.len());
+    let rest = text::any(LONGEST < time.len(), last);
+    text::any(LONGEST < call.len(), text::any(LONGEST < date.len(), rest))
+}
+
+fn wide(b: u8) -> usize
+    ensures { λ r. ⌜ r ≡ b ⌝ }
+    ensures { λ r. ⌜ r < 256 ⌝ }
+{
+    b as usize
+}
+
+fn two_at(list: &[u8], at: usize) -> usize
+    requires { ⌜ at < 5 ⌝ }
+    ensures { λ r. ⌜ r ≡ numberAt (now (list .entry)) at 2 ⌝ }
+    ensures { λ r. ⌜ r < 65536 ⌝ }
+{
+    wide(text::byte(list, at)) * 256 + wide(text::byte(list, at + 1))
+}
+
+// How many contacts the list says it has.
+fn count_of(list: &[u8]) -> usize
+    ensures { λ r. ⌜ r ≡ countOf (now (list .entry)) ⌝ }
+{
+    two_at(list, 1) * 65536 + two_at(list, 3)
+}
+
+// Whether a contact may follow, by the heading alone: in the same time whatever the list's length.
+fn heading_of(list: &[u8], contacts: usize) -> Verdict
+    ensures { λ r. ⌜ r ≡ headingOf (now (list .entry)) contacts ⌝ }
+{
+    if list.len() == 0 {
+        return Verdict::Refused(Refusal::MalformedList);
+    }
+    if list[0] != VERSION {
+        return Verdict::Refused(Refusal::OtherVersion);
+    }
+    let told = text::all(ENTRIES <= list.len(), count_of(list) == contacts);
+    if !text::all(told, contacts < MOST) {
+        return Verdict::Refused(Refusal::MalformedList);
+    }
+    Verdict::Accepted
+}
+
+// The first `used` bytes, or all where there are fewer.
+fn front(out: &[u8], used: usize) -> &[u8]
+    ensures { λ r. ⌜ now r ≡ take used (now (out .entry)) ⌝ }
+{
+    if out.len() <= used {
+        return out;
+    }
+    &out[..used]
+}
+
+fn heading_in(out: &[u8], used: usize, contacts: usize) -> Verdict
+    ensures { λ r. ⌜ r ≡ headingOf (take used (now (out .entry))) contacts ⌝ }
+{
+    heading_of(front(out, used), contacts)
+}
+
+// A contact behind a list of `used` bytes that has this mark. Of the list only the heading is looked at.
+pub fn append(
+    out: &mut [u8],
+    used: usize,
+    contacts: usize,
+    largest: u64,
+    id: u64,
+    services: u8,
+    call: &[u8],
+    date: &[u8],
+    time: &[u8],
+    band: &[u8],
+    mode: &[u8],
+) -> Appended
+    ensures { λ r. ⌜ r ≡ appendAs used contacts largest (contact id services (now (call .entry)) (now (date .entry)) (now (time .entry)) (now (band .entry)) (now (mode .entry))) (now (out .entry)) ⌝ }
+    ensures { λ _. ⌜ now (out .exit) ≡ appendAfter used contacts largest (contact id services (now (call .entry)) (now (date .entry)) (now (time .entry)) (now (band .entry)) (now (mode .entry))) (now (out .entry)) ⌝ }
+{
+    let long = are_long(call, date, time, band, mode);
+    if text::any(LONGEST < used, long) {
+        return Appended::Refused(Refusal::TooLong);
+    }
+    let heading = heading_in(out, used, contacts);
+    match heading {
+        Verdict::Refused(why) => Appended::Refused(why),
+        Verdict::Accepted => enter(
+            out,
+            used,
+            contacts,
+            largest,
+            id,
+            services,
+            call,
+            date,
+            time,
+            band,
+            mode,
+        ),
+    }
 }
 
 // A list with no contact yet.

@@ -1,11 +1,11 @@
 -- A list looked up, contact by contact. Assumes nothing.
 use mathlib.Core.Path.{_≡_, refl, sym, ap, _∙_}
-use mathlib.Core.List.{List, _∷_, _++_, map}
+use mathlib.Core.List.{List, [], _∷_, _++_, append-nil, map}
 use Prim.Native.Nat.{ℕ, zero, suc, _+_, _-_, _≤_, _<_}
 use native.Mathlib.Nat.{sub-zero, zero-add}
 use native.Mathlib.Numerals.{add-one}
 use native.Mathlib.Omega.{arith}
-use lib.ListN.{length, drop, set, replicate, length-replicate}
+use lib.ListN.{length, drop, set, replicate, length-replicate, drop-of-length-le}
 use lib.Seq.{sets, sets-eq}
 use lib.Dec.{ltb}
 use borrow.Author.Tests.{ltb-false}
@@ -16,15 +16,15 @@ use Rattle.contacts.specs.Lists.{callAt, bandAt, modeAt, endAt, idAt, contactAt
 use Rattle.contacts.specs.declared.Listed.{Listed}
 use Rattle.contacts.specs.declared.Listed.the-variants.{Marked, Refused}
 use Rattle.contacts.proofs.ListLaws.{good-inside, entries-next, accepted, marked-refused}
-use Rattle.index.specs.Rows.{Row}
-use Rattle.indexing.specs.Index.{indexedBy, indexedAs, indexAfter, countIn, Checked, Sound}
+use Rattle.index.specs.Rows.{Row, rowsFrom, noRow}
+use Rattle.indexing.specs.Index.{indexedBy, indexedAs, indexBy, indexAfter, countIn, Checked, Sound}
 use Rattle.indexing.proofs.BuildLaws.{drop-replicate}
 use Rattle.wanted.specs.Wanted.{keyAt, wantedAt}
 use Rattle.wanted.specs.declared.Wanted.{Wanted}
 use Rattle.wanted.proofs.WantedLaws.{place-says}
 use Rattle.search.specs.Search.{momentIn, firstFor, hitOf, Indexed}
 use Rattle.search.specs.declared.Hit.{Hit}
-use Rattle.lookup.specs.Lookup.{Asks, matchFor, matchesFrom, searchedBy, searchedAs, foundBy, foundAfter}
+use Rattle.lookup.specs.Lookup.{Asks, matchFor, matchesFrom, searchedBy, searchedAs, goneOf, indexLeft, foundBy, foundAfter}
 
 -- ---- one contact
 pub match-is : (s other : List ℕ) (at limit : ℕ) (w : Wanted) (h : Hit) → w ≡ wantedAt other at → h ≡ hitOf s (firstFor other w limit s) → h .number ≡ matchFor s limit (contactAt other at)
@@ -107,6 +107,32 @@ module _ (other : List ℕ) (room : ℕ) (built r : Listed) where
   unfolding indexedAs
   asked-marked n top e er = er ∙ by-listed (listedAs other) ∙ marked-alike n top (listedAs other) ∙ ap (λ (b : Listed). searchedBy room b (listedAs other)) (sym e)
 
+-- ---- how many records are cleared
+pub gone-all : (l : Listed) (m : ℕ) (why : Refusal) → l ≡ Refused why → m ≡ goneOf l m
+unfolding goneOf
+gone-all l m why e = rw e refl
+
+pub gone-none : (l : Listed) (m k last : ℕ) → l ≡ Marked k last → 0 ≡ goneOf l m
+unfolding goneOf
+gone-none l m k last e = rw e refl
+
+pub gone-within : (l : Listed) (m n : ℕ) → n ≡ goneOf l m → n ≤ m
+unfolding goneOf
+gone-within (Marked k last) m n e = omega arith
+gone-within (Refused why) m n e = omega arith
+
+-- as those of no contact
+cleared-is : (s : List ℕ) (n : ℕ) (rows rows′ : List Row) → rows′ ≡ sets rows 0 (rowsFrom s 0 5 ++ replicate (n - 0) noRow) → rows′ ≡ sets rows 0 (replicate n noRow)
+unfolding rowsFrom
+cleared-is s n rows rows′ e = rw (sub-zero n) at e
+
+all-cleared : (rows : List Row) (m : ℕ) → length rows ≡ m → sets rows 0 (replicate m noRow) ≡ replicate m noRow
+all-cleared rows m e =
+    let w : List Row = replicate m noRow in
+    let j : length w ≡ m = length-replicate {A = Row} m noRow in
+    let d : drop (0 + length w) rows ≡ [] = drop-of-length-le rows {i = 0 + length w} (omega arith) in
+    sets-eq w rows 0 (omega arith) ∙ ap (λ (q : List Row). w ++ q) d ∙ append-nil w
+
 -- ---- what may be looked up: nothing after a refusal
 listed-fits : (other : List ℕ) (room : ℕ) (l : Listed) (k last : ℕ) → searchedBy room (Marked 0 0) l ≡ Marked k last → (l ≡ Marked k last) × (k ≤ room)
 unfolding searchedBy
@@ -153,6 +179,13 @@ module _ (s other : List ℕ) (limit m room : ℕ) (rows : List Row) (er : rows 
   done-by (Marked n top) (Marked k last) e f = done-marked n top k last e f
   done-by (Refused why) (Marked k last) e f = unasked why k last f
 
+  -- the index is kept where the other list is taken, and else cleared
+  left-by : (built asked : Listed) → indexedAs s m ≡ built → searchedBy room built (listedAs other) ≡ asked → (n : ℕ) (rows′ : List Row) → n ≡ goneOf asked m → rows′ ≡ sets rows 0 (replicate n noRow) → rows′ ≡ indexBy asked s m
+  unfolding goneOf indexBy indexAfter
+  left-by built (Refused why) e f n rows′ en q = q ∙ rw en (all-cleared rows m lr)
+  left-by (Marked b top) (Marked k last) e f n rows′ en q = q ∙ rw en (er ∙ rw e refl)
+  left-by (Refused why) (Marked k last) e f n rows′ en q = unasked why k last f
+
   module _ (built asked : Listed) (lent : ℕ) (el : lent ≡ room) (eb : built ≡ indexedAs s m) (ea : asked ≡ searchedBy lent built (listedAs other)) where
     as-asked : asked ≡ searchedBy room built (listedAs other)
     as-asked = rw el at ea
@@ -174,3 +207,7 @@ module _ (s other : List ℕ) (limit m room : ℕ) (rows : List Row) (er : rows 
     pub up-found : (k : ℕ) (found : List ℕ) → k ≡ countIn asked → found ≡ sets was 0 (matchesFrom s limit other k 5) → (v : ℕ) → limit ≡ v → found ≡ foundAfter s v other m room
     unfolding foundAfter
     up-found k found ek ef v ev = rw (← ev) (ef ∙ rw ek (whole .2) ∙ ap (λ (x : Listed). foundBy x s limit other room) up-answer)
+
+    pub up-index : (n : ℕ) (rows′ : List Row) → n ≡ goneOf asked m → rows′ ≡ sets rows 0 (rowsFrom s 0 5 ++ replicate (n - 0) noRow) → rows′ ≡ indexLeft s other m room
+    unfolding indexLeft
+    up-index n rows′ en q = left-by built asked (sym eb) (sym as-asked) n rows′ en (cleared-is s n rows rows′ q) ∙ ap (λ (x : Listed). indexBy x s m) up-answer

@@ -1,6 +1,5 @@
 -- For each contact of another list, the first contact of the list that it matches.
 use Prim.Native.Nat.{ℕ, zero, suc, _-_, _<_}
-use mathlib.Core.Path.{_≡_, refl}
 use mathlib.Core.List.{List, [], _∷_, _++_, map}
 use lib.ListN.{replicate}
 use lib.Dec.{ltb}
@@ -11,7 +10,7 @@ use Rattle.contacts.specs.Lists.{endAt, contactAt, listedAs, contactsOf}
 use Rattle.contacts.specs.declared.Listed.{Listed}
 use Rattle.contacts.specs.declared.Listed.the-variants.{Marked, Refused}
 use Rattle.index.specs.Rows.{Row}
-use Rattle.indexing.specs.Index.{indexedAs, Sound}
+use Rattle.indexing.specs.Index.{indexedAs, indexBy, Sound}
 use Rattle.search.specs.Search.{momentIn, firstMatch, Indexed}
 
 abbrev pub matchFor : List ℕ → ℕ → Contact → ℕ
@@ -25,6 +24,15 @@ searchedBy room (Marked n top) (Marked k last) = pick (ltb room k) (Refused Shor
 
 unfoldable pub searchedAs : List ℕ → List ℕ → ℕ → ℕ → Listed
 searchedAs s other m room = searchedBy room (indexedAs s m) (listedAs other)
+
+-- how many of the index's records are cleared: all after a refusal, else none
+unfoldable pub goneOf : Listed → ℕ → ℕ
+goneOf (Marked k last) m = 0
+goneOf (Refused why) m = m
+
+-- what is left in the index: zero throughout after any refusal
+unfoldable pub indexLeft : List ℕ → List ℕ → ℕ → ℕ → List Row
+indexLeft s other m room = indexBy (searchedAs s other m room) s m
 
 -- the numbers of the matches at the front, 0 for none, and zero behind them; zero throughout after a refusal
 unfoldable pub foundBy : Listed → List ℕ → ℕ → List ℕ → ℕ → List ℕ
@@ -42,8 +50,3 @@ matchesFrom s limit other (suc k) at = matchFor s limit (contactAt other at) ∷
 -- what looking up k contacts of the other list asks for, if there is one: the index of n contacts, and a list with as many as k
 unfoldable pub Asks : List ℕ → ℕ → List Row → List ℕ → ℕ → Type 0
 Asks s n rows other k = 0 < k → Indexed s n rows × Sound other k
-
--- one contact to look up, and no number lent for it
-no-number : searchedBy 0 (Marked 3 9) (Marked 1 7) ≡ Refused ShortTable
-unfolding searchedBy
-no-number = refl

@@ -6,8 +6,7 @@ ghost use lib.Seq.{sets};
 ghost use Rattle.times.specs.Window.{limitOf};
 ghost use Rattle.contacts.specs.Lists.{listedAs};
 ghost use Rattle.index.specs.Contacts.{plain};
-ghost use Rattle.indexing.specs.Index.{indexAfter};
-ghost use Rattle.lookup.specs.Lookup.{Asks, matchesFrom, searchedBy, searchedAs, foundAfter};
+ghost use Rattle.lookup.specs.Lookup.{Asks, matchesFrom, searchedBy, searchedAs, goneOf, indexLeft, foundAfter};
 use contacts::Listed;
 use index::Contact;
 use search::Hit;
@@ -65,6 +64,19 @@ fn asked_of(built: Listed, other: &[u8], room: usize) -> Listed
     }
 }
 
+// How many of the index's records are cleared: all after a refusal, else none.
+fn gone(asked: Listed, records: usize) -> usize
+    ensures { λ r. ⌜ r ≡ goneOf asked records ⌝ }
+{
+    match asked {
+        Listed::Refused(_) => records,
+        Listed::Marked {
+            contacts: _,
+            largest: _,
+        } => 0,
+    }
+}
+
 // The index of the list is built, and each contact of the other list looked up in it: the numbers, from 1, of the first matches.
 pub fn look_up(
     list: &[u8],
@@ -74,7 +86,7 @@ pub fn look_up(
     found: &mut [u64],
 ) -> Listed
     ensures { λ r. ⌜ r ≡ searchedAs (now (list .entry)) (now (other .entry)) (length (now (rows .entry))) (length (now (found .entry))) ⌝ }
-    ensures { λ _. ⌜ plain (now (rows .exit)) ≡ indexAfter (now (list .entry)) (length (now (rows .entry))) ⌝ }
+    ensures { λ _. ⌜ plain (now (rows .exit)) ≡ indexLeft (now (list .entry)) (now (other .entry)) (length (now (rows .entry))) (length (now (found .entry))) ⌝ }
     ensures { λ _. ⌜ now (found .exit) ≡ foundAfter (now (list .entry)) (limitOf window) (now (other .entry)) (length (now (rows .entry))) (length (now (found .entry))) ⌝ }
 {
     clear(found);
@@ -90,5 +102,7 @@ pub fn look_up(
         limit,
         found,
     );
+    let cleared = gone(asked, rows.len());
+    indexing::fill(list, rows, 0, cleared);
     asked
 }

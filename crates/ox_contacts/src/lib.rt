@@ -6,7 +6,7 @@ ghost use Rattle.contacts.specs.Contacts.{contact};
 ghost use Rattle.contacts.specs.Lists.{listedAs, freshAgainst};
 ghost use Rattle.index.specs.Contacts.{plain};
 ghost use Rattle.indexing.specs.Index.{indexedAs, indexAfter};
-ghost use Rattle.lookup.specs.Lookup.{searchedAs, foundAfter};
+ghost use Rattle.lookup.specs.Lookup.{searchedAs, indexLeft, foundAfter};
 ghost use Rattle.listwriter.specs.Append.{startAs, startAfter, appendAs, appendAfter};
 ghost use Rattle.ox_contacts.specs.Answers.{ofListed, ofFreshness, ofAppended};
 use contacts::Freshness;
@@ -89,7 +89,7 @@ pub extern "C" fn ox_contacts_index(list: &[u8], index: &mut [Contact]) -> MarkA
 }
 
 // For each contact of the other list the number, from 1, of the first contact of the list that it matches within the window, or 0.
-// The answer is the other list's mark.
+// The answer is the other list's mark; after a refusal the index and the numbers are zero throughout.
 #[no_mangle]
 pub extern "C" fn ox_contacts_search(
     list: &[u8],
@@ -99,7 +99,7 @@ pub extern "C" fn ox_contacts_search(
     found: &mut [u64],
 ) -> MarkAnswer
     ensures { λ r. ⌜ r ≡ ofListed (searchedAs (now (list .entry)) (now (other .entry)) (length (now (index .entry))) (length (now (found .entry)))) ⌝ }
-    ensures { λ _. ⌜ plain (now (index .exit)) ≡ indexAfter (now (list .entry)) (length (now (index .entry))) ⌝ }
+    ensures { λ _. ⌜ plain (now (index .exit)) ≡ indexLeft (now (list .entry)) (now (other .entry)) (length (now (index .entry))) (length (now (found .entry))) ⌝ }
     ensures { λ _. ⌜ now (found .exit) ≡ foundAfter (now (list .entry)) (limitOf window) (now (other .entry)) (length (now (index .entry))) (length (now (found .entry))) ⌝ }
 {
     of_listed(lookup::look_up(list, other, window, index, found))
@@ -136,7 +136,7 @@ pub extern "C" fn ox_contacts_start(out: &mut [u8]) -> AppendAnswer
     of_appended(listwriter::start(out))
 }
 
-// A contact behind a list of `used` bytes, whose mark is told.
+// A contact behind a list of `used` bytes, whose mark is told. Of the list only the heading is looked at.
 #[no_mangle]
 pub extern "C" fn ox_contacts_append(
     out: &mut [u8],
@@ -151,7 +151,7 @@ pub extern "C" fn ox_contacts_append(
     band: &[u8],
     mode: &[u8],
 ) -> AppendAnswer
-    ensures { λ r. ⌜ r ≡ ofAppended (appendAs used contacts largest (contact id services (now (call .entry)) (now (date .entry)) (now (time .entry)) (now (band .entry)) (now (mode .entry))) (length (now (out .entry)))) ⌝ }
+    ensures { λ r. ⌜ r ≡ ofAppended (appendAs used contacts largest (contact id services (now (call .entry)) (now (date .entry)) (now (time .entry)) (now (band .entry)) (now (mode .entry))) (now (out .entry))) ⌝ }
     ensures { λ _. ⌜ now (out .exit) ≡ appendAfter used contacts largest (contact id services (now (call .entry)) (now (date .entry)) (now (time .entry)) (now (band .entry)) (now (mode .entry))) (now (out .entry)) ⌝ }
 {
     of_appended(listwriter::append(

@@ -40,8 +40,7 @@ use Rattle.times.specs.Window.{limitOf}
 use Rattle.contacts.proofs.Listed as Li
 use Rattle.index.specs.Contacts.{plain}
 use Rattle.index.specs.declared.Contact.{Contact}
-use Rattle.indexing.specs.Index.{indexAfter}
-use Rattle.lookup.specs.Lookup.{searchedAs, foundAfter}
+use Rattle.lookup.specs.Lookup.{searchedAs, indexLeft, foundAfter}
 use Rattle.ox_contacts.specs.Answers.{ofListed}
 use Rattle.ox_contacts.proofs.MarkAnswer as Ma
 use Rattle.ox_contacts.proofs.Values.{mark-data}
@@ -98,7 +97,7 @@ module _ {M : Type 1} (𝓤 : URA M) (H : Heap 𝓤) (A : Atoms 𝓤) (W : Given
       nothing ! $ move ! (2 ∷ 0 ∷ []) $ join ! $ move ! (4 ∷ 0 ∷ []) $ join ! $ move ! (9 ∷ 0 ∷ []) $ join ! $ move ! (9 ∷ 0 ∷ []) $ join ! $ nothing ! $ move ! (2 ∷ 0 ∷ []) $ fjoin ! $ move ! (3 ∷ 0 ∷ []) $ fjoin ! $ owned ! i64 (Is i64) ((signed w64) .makes 𝓤 H A W) window _ is-window $ fjoin ! $ move ! (4 ∷ 0 ∷ []) $ fjoin ! $ move ! (5 ∷ 0 ∷ []) $ fjoin ! $ move ! (1 ∷ 0 ∷ []) $ join ! $ nothing ! $ move ! (1 ∷ 0 ∷ []) $ join ! $
       calls-from ! fm _ ((look-up-called 𝓤 H A mem run) .args (((κ₀, (κ₁, (α ∷ [], (α₁ ∷ [], tt)))), (q₀, (q₁, (fullShare, (fullShare, tt)))), tt, (ref b-list o-list γ-list list, (ref b-other o-other γ-other other, (window, (ref b-index o-index δ index, (ref b-found o-found δ₁ found, tt))))), (sliceVal (b-list, o-list) (length list) ∷ [], (sliceVal (b-other, o-other) (length other) ∷ [], ((signed w64) .val window ∷ [], (sliceVal (b-index, o-index) (length index) ∷ [], (sliceVal (b-found, o-found) (length found) ∷ [], tt)))))), tt)) ((look-up-called 𝓤 H A mem run) .post (((κ₀, (κ₁, (α ∷ [], (α₁ ∷ [], tt)))), (q₀, (q₁, (fullShare, (fullShare, tt)))), tt, (ref b-list o-list γ-list list, (ref b-other o-other γ-other other, (window, (ref b-index o-index δ index, (ref b-found o-found δ₁ found, tt))))), (sliceVal (b-list, o-list) (length list) ∷ [], (sliceVal (b-other, o-other) (length other) ∷ [], ((signed w64) .val window ∷ [], (sliceVal (b-index, o-index) (length index) ∷ [], (sliceVal (b-found, o-found) (length found) ∷ [], tt)))))), tt)) (look-up-known (((κ₀, (κ₁, (α ∷ [], (α₁ ∷ [], tt)))), (q₀, (q₁, (fullShare, (fullShare, tt)))), tt, (ref b-list o-list γ-list list, (ref b-other o-other γ-other other, (window, (ref b-index o-index δ index, (ref b-found o-found δ₁ found, tt))))), (sliceVal (b-list, o-list) (length list) ∷ [], (sliceVal (b-other, o-other) (length other) ∷ [], ((signed w64) .val window ∷ [], (sliceVal (b-index, o-index) (length index) ∷ [], (sliceVal (b-found, o-found) (length found) ∷ [], tt)))))), tt)) (and-then ! (load ! (from ! (stop !)) (look ! 23 refl)) (and-then ! (load ! (from ! (stop !)) (look ! 21 refl)) (and-then ! (load ! (from ! (stop !)) (look ! 19 refl)) (and-then ! (load ! (from ! (stop !)) (look ! 9 refl)) (and-then ! (load ! (from ! (stop !)) (look ! 5 refl)) (no-more !)))))) (λ u.
       answers ! tt look-up.ended (look-up.clauses 𝓤 H A mem run) (((κ₀, (κ₁, (α ∷ [], (α₁ ∷ [], tt)))), (q₀, (q₁, (fullShare, (fullShare, tt)))), tt, (ref b-list o-list γ-list list, (ref b-other o-other γ-other other, (window, (ref b-index o-index δ index, (ref b-found o-found δ₁ found, tt))))), (sliceVal (b-list, o-list) (length list) ∷ [], (sliceVal (b-other, o-other) (length other) ∷ [], ((signed w64) .val window ∷ [], (sliceVal (b-index, o-index) (length index) ∷ [], (sliceVal (b-found, o-found) (length found) ∷ [], tt)))))), tt) (λ listed ws.
-      fsplit ! $ drop ! $ fsplit ! $ drop ! $ fsplit ! $ drop ! $ fsplit ! $ fsplit ! $ move ! (1 ∷ []) $ feqL ! (λ len. move ! (1 ∷ []) $ fsplit ! $ fsplit ! $ move ! (1 ∷ []) $ feqL ! (λ len₁. move ! (1 ∷ []) $ drop ! $ move ! (2 ∷ []) $ use1 W (raw (fact 𝓤 (listed ≡ searchedAs list other (length index) (length found))) ⊛ raw (fact 𝓤 (plain (ws .1 .1 .1 .0) ≡ indexAfter list (length index))) ⊛ raw (fact 𝓤 (ws .1 .1 .1 .1 .0 ≡ foundAfter list (limitOf window) other (length index) (length found)))) (id⊢ 𝓤 _) $ split ! $ heard ! (listed ≡ searchedAs list other (length index) (length found)) (λ e-listed. split ! $ heard ! (plain (ws .1 .1 .1 .0) ≡ indexAfter list (length index)) (λ e-index. heard ! (ws .1 .1 .1 .1 .0 ≡ foundAfter list (limitOf window) other (length index) (length found)) (λ e-found.
+      fsplit ! $ drop ! $ fsplit ! $ drop ! $ fsplit ! $ drop ! $ fsplit ! $ fsplit ! $ move ! (1 ∷ []) $ feqL ! (λ len. move ! (1 ∷ []) $ fsplit ! $ fsplit ! $ move ! (1 ∷ []) $ feqL ! (λ len₁. move ! (1 ∷ []) $ drop ! $ move ! (2 ∷ []) $ use1 W (raw (fact 𝓤 (listed ≡ searchedAs list other (length index) (length found))) ⊛ raw (fact 𝓤 (plain (ws .1 .1 .1 .0) ≡ indexLeft list other (length index) (length found))) ⊛ raw (fact 𝓤 (ws .1 .1 .1 .1 .0 ≡ foundAfter list (limitOf window) other (length index) (length found)))) (id⊢ 𝓤 _) $ split ! $ heard ! (listed ≡ searchedAs list other (length index) (length found)) (λ e-listed. split ! $ heard ! (plain (ws .1 .1 .1 .0) ≡ indexLeft list other (length index) (length found)) (λ e-index. heard ! (ws .1 .1 .1 .1 .0 ≡ foundAfter list (limitOf window) other (length index) (length found)) (λ e-found.
       move ! (2 ∷ []) $ use1 W (‵ (flft κ₀ q₀) ⊛ ‵ (flft κ₁ q₁) ⊛ ‵ (flft (α ∷ []) fullShare) ⊛ ‵ (flft (α₁ ∷ []) fullShare) ⊛ ‵ ftrue) (id⊢ 𝓤 _) $ split ! $ move ! (1 ∷ []) $ split ! $ move ! (1 ∷ []) $ split ! $ move ! (1 ∷ []) $ split ! $ move ! (1 ∷ []) $ drop ! $ move ! (1 ∷ 8 ∷ 5 ∷ []) $ comes-back ! tt T.the-row b-index o-index (length index) index (ws .1 .1 .1 .0) len refl room-index $ move ! (2 ∷ 7 ∷ 5 ∷ []) $ comes-back ! tt u64 b-found o-found (length found) found (ws .1 .1 .1 .1 .0) len₁ refl room-found $ move ! (6 ∷ []) $ lands-as ! marking listed (λ is. land ! (from ! (stop !)) (init ! 16 refl (marking .lawful 𝓤 H A W .typed listed _ is .0)) $
       nothing ! $ nothing ! $ owned ! Li.the-row (Is Li.the-row) (marking .makes 𝓤 H A W) listed _ is $ fjoin ! $ move ! (1 ∷ 0 ∷ []) $ join ! $ nothing ! $ move ! (1 ∷ 0 ∷ []) $ join ! $
       calls-from ! fm _ ((of-listed-called 𝓤 H A mem run) .args ((tt, tt, tt, (listed, tt), (marking .val listed ∷ [], tt)), tt)) ((of-listed-called 𝓤 H A mem run) .post ((tt, tt, tt, (listed, tt), (marking .val listed ∷ [], tt)), tt)) (of-listed-known ((tt, tt, tt, (listed, tt), (marking .val listed ∷ [], tt)), tt)) (and-then ! (load ! (from ! (stop !)) (look ! 17 refl)) (no-more !)) (λ u.
