@@ -42,7 +42,7 @@ fn contacts(log: &Log) -> Contacts {
     let (mut first, mut ours) = (0, Vec::new());
     while let Some(&record) = table.get(first * ROW) {
         let rows = table[first * ROW..].chunks_exact(ROW).take_while(|row| row[0] == record);
-        let is_extra = |row: &&[u32]| sys::column(&text[row[1] as usize..][..row[2] as usize]) == 13;
+        let is_extra = |row: &&[u32]| sys::column(&text[row[1] as usize..][..row[2] as usize]).column == 13;
         let extra: Vec<u32> = rows.clone().filter(is_extra).flatten().copied().collect();
         let count = rows.count();
         ours.push((sys::record_to_normal_qso(text, table, first, count).qso, extra));
