@@ -444,13 +444,13 @@ enum ox_columns {
 
 /* Flags of a contact are numbers, 0 or 1: with any other the contact is refused with 11. */
 typedef struct ox_hertz {
-    uint32_t given;
+    uint8_t given;
     uint64_t hz;
 } ox_hertz;
 
 typedef struct ox_dxcc {
-    uint32_t given;
-    uint32_t negative;
+    uint8_t given;
+    uint8_t negative;
     uint64_t size;
 } ox_dxcc;
 

@@ -344,15 +344,15 @@ fn rows(g: &mut Group) {
 }
 
 /// The flags of a QSO.
-pub fn flags(qso: &sys::Qso) -> [u32; 4] {
+pub fn flags(qso: &sys::Qso) -> [u8; 4] {
     [qso.freq.given, qso.freq_rx.given, qso.dxcc.given, qso.dxcc.negative]
 }
 
 /// A flag, rarely one that is neither 0 nor 1.
-pub fn flag(random: &mut Random) -> u32 {
+pub fn flag(random: &mut Random) -> u8 {
     match random.below(40) {
-        0 => random.pick(&[2, 3, 128, 255, 256, 257, 1 << 16, 1 << 31, u32::MAX]),
-        n => (n % 2) as u32,
+        0 => random.pick(&[2, 3, 127, 128, 254, 255]),
+        n => (n % 2) as u8,
     }
 }
 
@@ -361,7 +361,7 @@ fn odd_flags(g: &mut Group) {
     let text = b"W1AW";
     let mut sound = sys::Qso::default();
     sound.columns[0] = Place { kind: 1, start: 0, len: 4 };
-    for value in (0..=300).chain([1 << 8, 1 << 16, 1 << 24, 1 << 31, u32::MAX - 1, u32::MAX]) {
+    for value in 0..=255 {
         for k in 0..4 {
             let mut qso = sound;
             *[&mut qso.freq.given, &mut qso.freq_rx.given, &mut qso.dxcc.given, &mut qso.dxcc.negative][k] = value;

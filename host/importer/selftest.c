@@ -329,15 +329,14 @@ static void contacts(void) {
     again = ox_normalize_qso(c.text, 3, mapped.qso);
     CHECK(again.refusal == OX_BAD_ROW && same_qso(again.qso, mapped.qso));
 
-    /* a flag that is neither 0 nor 1, and none of whose bytes is taken for one */
+    /* a flag that is neither 0 nor 1 */
     char out[128];
     FILL(out);
     for (int flag = 0; flag < 4; flag++) {
-        static const uint32_t odd[] = {2, 3, 255, 256, 257, 65536, UINT32_MAX};
-        for (size_t i = 0; i < sizeof odd / sizeof *odd; i++) {
+        for (int value = 2; value < 256; value++) {
             ox_qso q = normal.qso;
             *(flag == 0 ? &q.freq.given : flag == 1 ? &q.freq_rx.given : flag == 2 ? &q.dxcc.given : &q.dxcc.negative) =
-                odd[i];
+                (uint8_t)value;
             again = ox_normalize_qso(c.text, c.length, q);
             CHECK(again.refusal == OX_BAD_ROW && same_qso(again.qso, q));
             ox_qso_written unwritten = ox_write_qso(c.text, c.length, q, c.table, 0, 0, out, sizeof out);

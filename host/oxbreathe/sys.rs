@@ -82,9 +82,9 @@ structs! {
     ReadAnswer [refusal place name] { records: usize, rows: usize }
 
     /// A frequency in hertz, if one is given. Flags of a contact are numbers, 0 or 1; with any other it is refused.
-    Hertz [] { given: u32, hz: u64 }
+    Hertz [] { given: u8, hz: u64 }
     /// The number of the DXCC entity by sign and size, if one is given.
-    Dxcc [] { given: u32, negative: u32, size: u64 }
+    Dxcc [] { given: u8, negative: u8, size: u64 }
     /// A contact over a text: its columns, in the order of [`Column`](crate::qso::Column), and its numbers.
     Qso [] { columns: [Place; 13], freq: Hertz, freq_rx: Hertz, dxcc: Dxcc }
     /// The number of the column that a name names, 13 where it names none.

@@ -9,6 +9,7 @@ ghost use Rattle.adif.specs.Reading.{readText};
 ghost use Rattle.writer.specs.Rows.{rowsFrom};
 ghost use Rattle.plan.specs.Entry.{isRefused};
 ghost use Rattle.plan.specs.Fates.{bearsAny};
+ghost use Rattle.model.specs.Flags.{oneIf};
 ghost use Rattle.entries.specs.Row.{withNumber, keyIn, rowWith, entryRow};
 ghost use Rattle.entries.specs.Filled.{ReadInto, entriesRead, Said, Answered, Bare};
 ghost use Rattle.entries.specs.Walked.{shownAs, judgedAs, judgedOf, sizeIn, entryRows};
@@ -152,6 +153,12 @@ fn bears_any(answers: [Answer; 4]) -> bool
     text::any(first, second)
 }
 
+fn one_if(bears: bool) -> u32
+    ensures { λ r. ⌜ r ≡ oneIf bears ⌝ }
+{
+    if bears { 1 } else { 0 }
+}
+
 fn is_refused(verdict: Verdict) -> bool
     ensures { λ r. ⌜ r ≡ isRefused verdict ⌝ }
 {
@@ -207,7 +214,7 @@ fn row_with(
         first as u32,
         count as u32,
         0,
-        model::one_if(bears_any(answers)),
+        one_if(bears_any(answers)),
         0,
         0,
         0,

@@ -11,7 +11,7 @@ use lib.Seq.{drop-cons}
 use Rattle.text.specs.Pick.{pick, both, either}
 use Rattle.text.specs.Space.{trimmed}
 use Rattle.text.specs.Utf8.{utf8}
-use borrow.Author.Tests.{eq-eqb, ne-eqb, le-leb, lt-leb}
+use borrow.Author.Tests.{eq-eqb, ne-eqb, eqb-true, le-leb, lt-leb}
 use Rattle.refusals.specs.declared.Refusal.the-variants.{TooLong, BadRow}
 use Rattle.tables.specs.Bands.{bands, bandNames, bandFor, bandNamed}
 use Rattle.tables.specs.Modes.{modes, modeNames}
@@ -42,6 +42,12 @@ is-entry p b m a t r eb em ea et er = rw (er, ea, et, eb, em) refl
 pub is-modal : (p : Place) (b r : Bool) → b ≡ both (eqb (p .kind) 4) (ltb (p .start) 31) → r ≡ either (leb (p .kind) 2) b → r ≡ modal p
 unfolding modal modeNames modes
 is-modal p b r eb er = rw (er, eb) refl
+
+pub fit-absent : (text : List ℕ) (p : Place) (t : Bool) → t ≡ isAbsent p → t ≡ true → true ≡ isFit text p
+unfolding isFit isEntry
+fit-absent text p t e h =
+    let z : p .kind ≡ 0 = eqb-true (p .kind) 0 (sym e ∙ h) in
+    rw z refl
 
 module _ (text : List ℕ) (p : Place) (t : Bool) (e : t ≡ inText p) (r : Bool) where
   pub fit-part : t ≡ true → r ≡ isPart text p → r ≡ isFit text p

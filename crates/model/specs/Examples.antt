@@ -99,7 +99,7 @@ freq-rx-flag : normalizedTo text (flagged 0 3 0 0) ≡ refused BadRow (flagged 0
 unfolding normalizedTo isQso isFlagged
 freq-rx-flag = refl
 
-dxcc-flag : normalizedTo text (flagged 0 0 4294967295 0) ≡ refused BadRow (flagged 0 0 4294967295 0)
+dxcc-flag : normalizedTo text (flagged 0 0 255 0) ≡ refused BadRow (flagged 0 0 255 0)
 unfolding normalizedTo isQso isFlagged
 dxcc-flag = refl
 

@@ -20,15 +20,15 @@ use tables::places;
 // stand a byte that is neither.
 #[repr(C)]
 pub struct Frequency {
-    pub given: u32,
+    pub given: u8,
     pub hz: u64,
 }
 
 // The number of the DXCC entity by its size, if one is given.
 #[repr(C)]
 pub struct Dxcc {
-    pub given: u32,
-    pub negative: u32,
+    pub given: u8,
+    pub negative: u8,
     pub size: u64,
 }
 
@@ -48,7 +48,7 @@ pub struct Answer {
 }
 
 // A flag.
-pub fn one_if(yes: bool) -> u32
+pub fn one_if(yes: bool) -> u8
     ensures { λ r. ⌜ r ≡ oneIf yes ⌝ }
 {
     if yes { 1 } else { 0 }
@@ -118,9 +118,13 @@ fn is_entry(p: Place) -> bool
     text::any(places::is_absent(p), text::any(band, mode))
 }
 
+// Most columns of a record are absent.
 pub fn is_fit(text: &[u8], p: Place) -> bool
     ensures { λ r. ⌜ r ≡ isFit (now (text .entry)) p ⌝ }
 {
+    if places::is_absent(p) {
+        return true;
+    }
     if places::in_text(p) {
         return is_part(text, p);
     }
