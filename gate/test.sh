@@ -92,6 +92,10 @@ part doc host/host.sh doc
 # shellcheck disable=SC2046
 count $(told 'doc: \([0-9]*\) passed, \([0-9]*\) failed')
 
+# nothing else in the gate needs the benchmark to build
+part stack host/host.sh stack
+count $((status == 0)) 0
+
 part host ended host
 # shellcheck disable=SC2046
 count $(told 'host: \([0-9]*\) groups passed, \([0-9]*\) failed, [0-9]* comparisons')
