@@ -19,6 +19,8 @@ use Rattle.contacts.proofs.text_at.Reads as text-at
 use Rattle.contacts.proofs.text_at.Kinds as text-at-kinds
 use Rattle.contacts.proofs.after_text.Reads as after-text
 use Rattle.contacts.proofs.after_text.Kinds as after-text-kinds
+use Rattle.contacts.proofs.count_of.Reads as count-of
+use Rattle.contacts.proofs.count_of.Kinds as count-of-kinds
 use Rattle.contacts.proofs.end_at.Reads as end-at
 use Rattle.contacts.proofs.end_at.Kinds as end-at-kinds
 use Rattle.contacts.proofs.check.Reads as check
@@ -48,6 +50,9 @@ text-at-once κs a x y d e p q = p ∙ sym q
 
 after-text-once : Once 1 after-text-kinds.ps after-text-kinds.r after-text.Post
 after-text-once κs a x y d e p q = p .0 ∙ sym (q .0)
+
+count-of-once : Once 1 count-of-kinds.ps count-of-kinds.r count-of.Post
+count-of-once κs a x y d e p q = p .0 ∙ sym (q .0)
 
 end-at-once : Once 1 end-at-kinds.ps end-at-kinds.r end-at.Post
 end-at-once κs a x y d e p q = p .0 ∙ sym (q .0)

@@ -12,7 +12,7 @@ use Rattle.text.specs.Pick.{pick, both}
 use Rattle.text.proofs.BoolLaws.{cases, both-left}
 use Rattle.refusals.specs.declared.Refusal.{Refusal}
 use Rattle.refusals.specs.declared.Refusal.the-variants.{TooLong, OtherVersion, MalformedList, IdsNotRising}
-use Rattle.contacts.specs.Lists.{numberAt, endAt, idAt, fits, goodAt, entriesFrom, countOf, listedAs, freshBy, freshAgainst}
+use Rattle.contacts.specs.Lists.{endAt, idAt, fits, goodAt, entriesFrom, countOf, listedAs, freshBy, freshAgainst}
 use Rattle.contacts.specs.declared.Listed.{Listed}
 use Rattle.contacts.specs.declared.Listed.the-variants.{Marked, Refused}
 use Rattle.contacts.specs.declared.Freshness.{Freshness}
@@ -86,8 +86,8 @@ module _ (s : List ℕ) where
         unfolding listedAs
         list-short h = rw (le-ltb 16777216 (length s) a, ne-eqb (length s) 0 b, eq-eqb (getD s 0 0) 1 v, lt-ltb (length s) 5 h) refl
 
-        pub list-entries : 5 ≤ length s → (n : ℕ) (r : Listed) → n ≡ numberAt s 1 4 → r ≡ entriesFrom s n n 5 0 → r ≡ listedAs s
-        unfolding listedAs countOf
+        pub list-entries : 5 ≤ length s → (n : ℕ) (r : Listed) → n ≡ countOf s → r ≡ entriesFrom s n n 5 0 → r ≡ listedAs s
+        unfolding listedAs
         list-entries h n r en er = er ∙ rw (le-ltb 16777216 (length s) a, ne-eqb (length s) 0 b, eq-eqb (getD s 0 0) 1 v, le-ltb (length s) 5 h, ← en) refl
 
 -- ---- freshness

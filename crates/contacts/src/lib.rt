@@ -4,7 +4,7 @@ ghost use mathlib.Core.Path.{_≡_};
 ghost use Prim.Native.Nat.{_+_, _*_, _≤_, _<_};
 ghost use lib.ListN.{length};
 ghost use Rattle.contacts.specs.Contacts.{plain, isDate, isTime, soundHead, soundTexts};
-ghost use Rattle.contacts.specs.Lists.{numberAt, textAt, after, endAt, idAt, goodAt, entriesFrom, listedAs, freshAgainst, Few};
+ghost use Rattle.contacts.specs.Lists.{numberAt, textAt, after, endAt, idAt, goodAt, entriesFrom, countOf, listedAs, freshAgainst, Few};
 use decimal::all_digits;
 use refusals::LONGEST;
 use refusals::Refusal;
@@ -22,9 +22,9 @@ pub enum Freshness {
 }
 
 // The version of lists that is known, and where the entries begin.
-const VERSION: u8 = 1;
+pub const VERSION: u8 = 1;
 
-const ENTRIES: usize = 5;
+pub const ENTRIES: usize = 5;
 
 const LARGEST_ID: u64 = 9_223_372_036_854_775_807;
 
@@ -227,6 +227,14 @@ fn check_entries(s: &[u8], count: usize) -> Listed
     }
 }
 
+// How many contacts a list says it has.
+pub fn count_of(list: &[u8]) -> usize
+    ensures { λ r. ⌜ r ≡ countOf (now (list .entry)) ⌝ }
+    ensures { λ r. ⌜ r < 4294967296 ⌝ }
+{
+    four_at(list, 1) as usize
+}
+
 // The list's mark, or why it is no list.
 pub fn check(list: &[u8]) -> Listed
     ensures { λ r. ⌜ r ≡ listedAs (now (list .entry)) ⌝ }
@@ -244,7 +252,7 @@ pub fn check(list: &[u8]) -> Listed
     if list.len() < ENTRIES {
         return Listed::Refused(Refusal::MalformedList);
     }
-    check_entries(list, four_at(list, 1) as usize)
+    check_entries(list, count_of(list))
 }
 
 // Whether a plan with this mark still holds against a list, which is checked first.

@@ -14,8 +14,7 @@ use Rattle.refusals.specs.declared.Refusal.{Refusal}
 use Rattle.refusals.specs.declared.Refusal.the-variants.{OtherVersion, MalformedList}
 use Rattle.refusals.specs.declared.Verdict.{Verdict}
 use Rattle.refusals.specs.declared.Verdict.the-variants.{Accepted, Refused}
-use Rattle.contacts.specs.Lists.{numberAt, countOf}
-use Rattle.contacts.proofs.EntryLaws.{four-is}
+use Rattle.contacts.specs.Lists.{countOf}
 use Rattle.listwriter.specs.Append.{headingOf}
 use Rattle.listwriter.specs.Headings.{Headed}
 
@@ -32,10 +31,6 @@ pub front-short : (s : List ℕ) (n : ℕ) → length (take n s) ≤ n
 front-short s zero = omega arith
 front-short [] (suc n) = omega arith
 front-short (x ∷ s) (suc n) = omega (arith, front-short s n)
-
-pub count-is : (s : List ℕ) (a b : ℕ) → a ≡ numberAt s 1 2 → b ≡ numberAt s 3 2 → a * 65536 + b ≡ countOf s
-unfolding countOf
-count-is s a b ea eb = four-is s 1 a b ea eb
 
 -- ---- the tests
 module _ (s : List ℕ) (count : ℕ) where

@@ -4,9 +4,10 @@ ghost use Prim.Native.Nat.{_+_, _≤_, _<_};
 ghost use lib.ListN.{length, take};
 ghost use Rattle.output.specs.Put.{Put, Room};
 ghost use Rattle.contacts.specs.Contacts.{contact, bytesOf, counted, entryText};
-ghost use Rattle.contacts.specs.Lists.{numberAt, countOf};
 ghost use Rattle.listwriter.specs.Append.{startAs, startAfter, longTexts, headingOf, appendAs, appendAfter};
 ghost use Rattle.listwriter.specs.Parts.{pairText, textsText, headText, bodySize, Counted, Behind, Entered};
+use contacts::ENTRIES;
+use contacts::VERSION;
 use refusals::LONGEST;
 use refusals::Refusal;
 use refusals::Verdict;
@@ -17,11 +18,7 @@ pub enum Appended {
     Refused(Refusal),
 }
 
-// The version of lists, where the entries begin, and how many contacts a list can count.
-const VERSION: u8 = 1;
-
-const ENTRIES: usize = 5;
-
+// How many contacts a list can count.
 const MOST: usize = 4_294_967_295;
 
 // n in k bytes, the highest first.
@@ -181,28 +178,6 @@ fn are_long(call: &[u8], date: &[u8], time: &[u8], band: &[u8], mode: &[u8]) -> 
     text::any(LONGEST < call.len(), text::any(LONGEST < date.len(), rest))
 }
 
-fn wide(b: u8) -> usize
-    ensures { λ r. ⌜ r ≡ b ⌝ }
-    ensures { λ r. ⌜ r < 256 ⌝ }
-{
-    b as usize
-}
-
-fn two_at(list: &[u8], at: usize) -> usize
-    requires { ⌜ at < 5 ⌝ }
-    ensures { λ r. ⌜ r ≡ numberAt (now (list .entry)) at 2 ⌝ }
-    ensures { λ r. ⌜ r < 65536 ⌝ }
-{
-    wide(text::byte(list, at)) * 256 + wide(text::byte(list, at + 1))
-}
-
-// How many contacts the list says it has.
-fn count_of(list: &[u8]) -> usize
-    ensures { λ r. ⌜ r ≡ countOf (now (list .entry)) ⌝ }
-{
-    two_at(list, 1) * 65536 + two_at(list, 3)
-}
-
 // Whether a contact may follow, by the heading alone: in the same time whatever the list's length.
 fn heading_of(list: &[u8], contacts: usize) -> Verdict
     ensures { λ r. ⌜ r ≡ headingOf (now (list .entry)) contacts ⌝ }
@@ -213,7 +188,7 @@ fn heading_of(list: &[u8], contacts: usize) -> Verdict
     if list[0] != VERSION {
         return Verdict::Refused(Refusal::OtherVersion);
     }
-    let told = text::all(ENTRIES <= list.len(), count_of(list) == contacts);
+    let told = text::all(ENTRIES <= list.len(), contacts::count_of(list) == contacts);
     if !text::all(told, contacts < MOST) {
         return Verdict::Refused(Refusal::MalformedList);
     }

@@ -3,7 +3,7 @@ use borrow.Author.Needs.{needs}
 use Rattle.contacts.proofs.check.Statement.{statement}
 use Rattle.contacts.proofs.check.Tie as tie
 use Rattle.contacts.proofs.check_entries.Reads as check-entries-reads
-use Rattle.contacts.proofs.four_at.Reads as four-at-reads
+use Rattle.contacts.proofs.count_of.Reads as count-of-reads
 
 returns : tie.Need-returns
 returns c = search (needs, list-long)
@@ -20,8 +20,8 @@ returns-3 c = search (needs, list-other)
 returns-4 : tie.Need-returns-4
 returns-4 c = search (needs, list-short)
 
-four-at-requires : tie.Need-four-at-requires
-four-at-requires c κs = search needs
+count-of-requires : tie.Need-count-of-requires
+count-of-requires c κs = search needs
 
 check-entries-requires : tie.Need-check-entries-requires
 check-entries-requires c κs = search needs
@@ -38,6 +38,6 @@ check-spec =
     shared-slice-read-if3
     returns-3
     returns-4
-    four-at-requires
+    count-of-requires
     check-entries-requires
     returns-5)

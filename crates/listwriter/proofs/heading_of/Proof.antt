@@ -2,7 +2,7 @@ use Rattle.listwriter.proofs.HeadingLaws.{heading-none, heading-other, 
 use borrow.Author.Needs.{needs}
 use Rattle.listwriter.proofs.heading_of.Statement.{statement}
 use Rattle.listwriter.proofs.heading_of.Tie as tie
-use Rattle.listwriter.proofs.count_of.Reads as count-of-reads
+use Rattle.contacts.proofs.count_of.Reads as count-of-reads
 use Rattle.text.proofs.all.Reads as all-reads
 
 returns : tie.Need-returns
