@@ -18,7 +18,7 @@ pub record Field : Type 0 where
   pub name : List ℕ
   pub value : List ℕ
 
--- why a text is refused: document 01's number, and with 4 to 7 the name, with 6 the length that the tag gives and the bytes left
+-- why a text is refused: its number in docs/SCOPE.md, and with 4 to 7 the name, with 6 the length that the tag gives and the bytes left
 pub record Why : Type 0 where
   pub number : ℕ
   pub name : List ℕ

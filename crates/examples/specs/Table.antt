@@ -1,4 +1,4 @@
--- Document 01's checked examples, those that are to be proved, line by line. `readText` is what `ox_read` is proved to read, `bandFor` the
+-- The checked examples of docs/SCOPE.md, those that are to be proved, line by line. `readText` is what `ox_read` is proved to read, `bandFor` the
 -- band of `ox_band_for_freq_hz`, `momentOf` the moment of `ox_parse_dt` and `duplicate` the test of `ox_is_duplicate`.
 use mathlib.Core.Path.{_≡_}
 use mathlib.Core.Bool.{true, false}

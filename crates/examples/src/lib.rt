@@ -1,1 +1,1 @@
-// Document 01's checked examples, proved together in one table: definitions and a theorem, with no code.
+// The checked examples of docs/SCOPE.md, proved together in one table: definitions and a theorem, with no code.

@@ -1,4 +1,4 @@
--- Worked examples: document 01's, and the edges of the grammar and of the window. A text is a list of ASCII codes.
+-- Worked examples: those of docs/SCOPE.md, and the edges of the grammar and of the window. A text is a list of ASCII codes.
 use mathlib.Core.Path.{_≡_, refl}
 use mathlib.Core.Bool.{true, false}
 use mathlib.Core.List.{[], _∷_}

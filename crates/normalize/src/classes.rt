@@ -7,7 +7,7 @@ use tables::Found;
 use tables::ModeClass;
 use tables::Name;
 use tables::Span;
-use tables::modes;
+use tables::mode_names;
 use tables::name_in;
 use tables::named_in;
 use tables::number_at;
@@ -85,7 +85,11 @@ pub fn parse_class(name: &[u8]) -> Classed
 pub fn mode_class(mode: &[u8]) -> Classed
     ensures { λ r. ⌜ r ≡ classOf (now (mode .entry)) ⌝ }
 {
-    match named_in(&modes::NAMES, &modes::LENS, text::space::trim(mode)) {
+    match named_in(
+        &mode_names::NAMES,
+        &mode_names::LENS,
+        text::space::trim(mode),
+    ) {
         Found::At(k) => Classed::In(class_numbered(number_at(&CLASSES, k))),
         Found::Nothing => Classed::Unclassed,
     }

@@ -1,4 +1,4 @@
--- Document 01's example of `showplan`: its text, planned against an empty list at 1800.
+-- The example of `showplan` in docs/SCOPE.md: its text, planned against an empty list at 1800.
 use mathlib.Core.Path.{_≡_, refl}
 use mathlib.Core.Bool.{false}
 use mathlib.Core.List.{List, [], _∷_, _++_}

@@ -1,4 +1,4 @@
--- Worked examples: for each text the answer, and the lent table of twelve numbers after it, all of which were 9 before. Document 01's own
+-- Worked examples: for each text the answer, and the lent table of twelve numbers after it, all of which were 9 before. Those of docs/SCOPE.md
 -- are in the crate `examples`.
 use mathlib.Core.Path.{_≡_, refl}
 use mathlib.Core.List.{List, [], _∷_}

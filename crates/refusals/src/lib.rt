@@ -1,4 +1,4 @@
-// Why a call refuses, with document 01's numbers; and the test of a plain text, which every call that takes one makes first.
+// Why a call refuses, with the numbers of docs/SCOPE.md; and the test of a plain text, which every call that takes one makes first.
 ghost use mathlib.Core.Path.{_≡_};
 ghost use Rattle.refusals.specs.Refusals.{numberOf, placeOf, nameOf, nameLengthOf, wantedOf, leftOf, ofText, ofTexts};
 ghost use Rattle.refusals.specs.Written.{fitted};

@@ -1,5 +1,5 @@
 // Which rows the writer takes, one after the other: places in the text, whole characters, numbers and names in order, names that can be
-// written, and the limits of document 01.
+// written, and the limits of docs/SCOPE.md.
 ghost use mathlib.Core.Path.{_≡_};
 ghost use Prim.Native.Nat.{_+_, _≤_};
 ghost use lib.ListN.{getD};

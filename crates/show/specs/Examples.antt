@@ -9,7 +9,7 @@ use Rattle.plan.specs.Fates.{count, fatesIn}
 use Rattle.plan.specs.Plan.{countsWith}
 use Rattle.show.specs.Shown.{fateName, newline, lineOf, linesOf, planText, refusedText}
 
--- document 01's: importable, a duplicate in the file, and unusable for want of a call
+-- that of docs/SCOPE.md: importable, a duplicate in the file, and unusable for want of a call
 three-records : planText ((1 ∷ 0 ∷ []) ∷ (3 ∷ 0 ∷ []) ∷ (4 ∷ 1 ∷ []) ∷ (9 ∷ 9 ∷ []) ∷ []) 3 0 0 0
     ≡ ascii "1 importable 0"
     ++ (newline

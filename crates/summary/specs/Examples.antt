@@ -20,7 +20,7 @@ of total importable confirmations already duplicates unmatched unusable = record
   unusable = unusable;
 }
 
--- document 01's: 3 records · 1 to import · 1 duplicate (skipped) · 1 unusable
+-- that of docs/SCOPE.md: 3 records · 1 to import · 1 duplicate (skipped) · 1 unusable
 three-records : summaryText (of 3 1 0 0 1 0 1) ≡ ascii "3 records" ++ (dot ++ (ascii "1 to import" ++ (dot ++ (ascii "1 duplicate (skipped)" ++ (dot ++ ascii "1 unusable")))))
 unfolding summaryText found confirmed leftOut part further counted decimal digits
 three-records = refl

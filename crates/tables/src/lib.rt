@@ -8,8 +8,8 @@ ghost use lib.Dec.{eqb};
 ghost use Rattle.tables.specs.Table.{Columns, Keyed, cut, firstFrom, keyOf, named};
 ghost use Rattle.tables.specs.Place.{noName, nameAt};
 
-pub mod bands;
-pub mod modes;
+pub mod band_names;
+pub mod mode_names;
 pub mod places;
 
 // Where the bytes of a text result stand. Kind 0: nowhere, the result is absent; 1: `len` bytes of the text from `start`, as

@@ -9,8 +9,8 @@ ghost use Rattle.tables.specs.Bands.{bandNames};
 ghost use Rattle.tables.specs.Modes.{modeNames};
 use super::Name;
 use super::Place;
-use super::bands;
-use super::modes;
+use super::band_names;
+use super::mode_names;
 use super::name_in;
 use super::no_name;
 
@@ -142,13 +142,13 @@ pub fn tidy(text: &[u8], p: Place) -> Place
 fn band_name(k: usize) -> Name
     ensures { λ r. ⌜ r ≡ spelled (orEmpty (entry bandNames k)) ⌝ }
 {
-    name_in(&bands::NAMES, &bands::LENS, k)
+    name_in(&band_names::NAMES, &band_names::LENS, k)
 }
 
 fn mode_name(k: usize) -> Name
     ensures { λ r. ⌜ r ≡ spelled (orEmpty (entry modeNames k)) ⌝ }
 {
-    name_in(&modes::NAMES, &modes::LENS, k)
+    name_in(&mode_names::NAMES, &mode_names::LENS, k)
 }
 
 // The name of an entry.
