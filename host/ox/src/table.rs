@@ -48,40 +48,41 @@ pub fn contact(contact: &Contact) -> [String; 5] {
     [contact.call, contact.date, contact.time, contact.band, contact.mode].map(cell)
 }
 
-/// A number, a contact and what is said of it, perhaps coloured.
-pub struct Line<const N: usize> {
-    pub number: String,
-    pub contact: [String; 5],
-    pub said: [String; N],
+/// A row of a table, perhaps coloured.
+pub struct Row {
+    pub cells: Vec<String>,
     pub colour: Option<u8>,
 }
 
-impl<const N: usize> Line<N> {
-    fn cells(&self) -> Vec<&str> {
-        once(&self.number).chain(&self.contact).chain(&self.said).map(String::as_str).collect()
-    }
+/// A number, a contact and what is said of it.
+pub fn row<const N: usize>(number: String, contact: [String; 5], said: [String; N], colour: Option<u8>) -> Row {
+    Row { cells: once(number).chain(contact).chain(said).collect(), colour }
 }
 
-/// The lines under their head, the numbers to the right.
-pub fn laid_out<const N: usize>(number: &str, said: [&str; N], lines: &[Line<N>]) -> String {
+/// Such rows under their head, the numbers to the right.
+pub fn of_contacts<const N: usize>(number: &str, said: [&str; N], rows: &[Row]) -> String {
     let head: Vec<&str> = once(number).chain(CONTACT).chain(said).collect();
-    let rows: Vec<Vec<&str>> = lines.iter().map(Line::cells).collect();
-    let mut widths = vec![0; head.len()];
-    for row in once(&head).chain(&rows) {
-        for (width, cell) in widths.iter_mut().zip(row) {
+    laid_out(&head, &[0], rows)
+}
+
+/// Rows under their head; the columns of these numbers stand to the right.
+pub fn laid_out(head: &[&str], to_the_right: &[usize], rows: &[Row]) -> String {
+    let mut widths: Vec<usize> = head.iter().map(|cell| cell.chars().count()).collect();
+    for row in rows {
+        for (width, cell) in widths.iter_mut().zip(&row.cells) {
             *width = cell.chars().count().max(*width);
         }
     }
-    let row = |cells: &[&str]| {
-        let padded = cells.iter().zip(&widths).enumerate().map(|(column, (cell, &width))| {
-            if column == 0 { format!("{cell:>width$}") } else { format!("{cell:width$}") }
+    let line = |cells: &mut dyn Iterator<Item = &str>| {
+        let padded = cells.zip(&widths).enumerate().map(|(column, (cell, &width))| {
+            if to_the_right.contains(&column) { format!("{cell:>width$}") } else { format!("{cell:width$}") }
         });
         padded.collect::<Vec<_>>().join("  ").trim_end().to_string()
     };
-    let mut text = row(&head) + "\n";
-    for (line, cells) in lines.iter().zip(&rows) {
-        let row = row(cells);
-        text += &line.colour.map_or(format!("{row}\n"), |colour| format!("\x1b[{colour}m{row}\x1b[0m\n"));
+    let mut text = line(&mut head.iter().copied()) + "\n";
+    for Row { cells, colour } in rows {
+        let line = line(&mut cells.iter().map(String::as_str));
+        text += &colour.map_or(format!("{line}\n"), |colour| format!("\x1b[{colour}m{line}\x1b[0m\n"));
     }
     text
 }

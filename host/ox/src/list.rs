@@ -1,14 +1,13 @@
-//! Contact lists: made of a log, printed, and held against a saved preview.
+//! Contact lists: made of a log, and printed.
 
-use crate::files::{self, Out};
+use crate::files::{In, Out};
 use crate::refused;
-use crate::table::{self, Line, laid_out};
-use crate::{Failure, Said, done, json};
-use oxbreathe::contacts::{Contact, List, Mark, Service, Services, Writer, check, is_fresh};
+use crate::table::{self, of_contacts};
+use crate::{Failure, Said, done};
+use oxbreathe::contacts::{Contact, List, Mark, Service, Services, Writer};
 use oxbreathe::plan::{Fate, plan, plan_download};
 use oxbreathe::reading::Record;
 use std::collections::BTreeMap;
-use std::path::Path;
 
 /// A mark in words.
 pub fn marked(mark: Mark) -> String {
@@ -18,9 +17,9 @@ pub fn marked(mark: Mark) -> String {
 
 /// Makes a list of a log: its usable records, each with its number as its id. Who confirmed a contact is what a download of the log itself
 /// would confirm in the list.
-pub fn make(from: &Path, out: &Out) -> Result<Said, Failure> {
+pub fn make(from: &In, out: &Out) -> Result<Said, Failure> {
     out.check(&[from])?;
-    let log = files::read(from)?;
+    let log = from.read()?;
     let plan = refused::of(from, &log, plan(&log, Writer::new().bytes(), 0))?;
     let mut said = String::new();
     let mut kept: Vec<Record> = Vec::new();
@@ -53,38 +52,14 @@ pub fn make(from: &Path, out: &Out) -> Result<Said, Failure> {
     done(format!("{said}{}: {}\n", out.path.display(), marked(list.mark())))
 }
 
-pub fn show(path: &Path) -> Result<Said, Failure> {
-    let bytes = files::read(path)?;
-    let list = refused::of(path, &bytes, List::new(&bytes))?;
-    let line = |contact: Contact| Line {
-        number: contact.id.to_string(),
-        contact: table::contact(&contact),
-        said: [contact.services.iter().map(Service::name).collect::<Vec<_>>().join(" ")],
-        colour: None,
+pub fn show(input: &In) -> Result<Said, Failure> {
+    let bytes = input.read()?;
+    let list = refused::of(input, &bytes, List::new(&bytes))?;
+    let row = |contact: Contact| {
+        let services = contact.services.iter().map(Service::name).collect::<Vec<_>>().join(" ");
+        table::row(contact.id.to_string(), table::contact(&contact), [services], None)
     };
-    let lines: Vec<_> = list.contacts().map(line).collect();
-    let table = laid_out("id", ["confirmed by"], &lines);
+    let rows: Vec<_> = list.contacts().map(row).collect();
+    let table = of_contacts("id", ["confirmed by"], &rows);
     done(format!("{table}\n{}\n", marked(list.mark())))
-}
-
-/// Whether a saved preview holds against a list.
-pub fn fresh(plan: &Path, path: &Path) -> Result<Said, Failure> {
-    let saved = files::read_saved(plan)?;
-    let mark = String::from_utf8(saved).ok().and_then(|text| saved_mark(&text));
-    let mark =
-        mark.ok_or_else(|| Failure::File(format!("{} is no preview: ox preview --json prints one", plan.display())))?;
-    let list = files::read(path)?;
-    if refused::of(path, &list, is_fresh(mark, &list))? {
-        return done(format!("fresh: {}\n", marked(mark)));
-    }
-    let now = refused::of(path, &list, check(&list))?;
-    let text = format!("not fresh: previewed against {}; now {}\n", marked(mark), marked(now));
-    Ok(Said { text, status: 1 })
-}
-
-fn saved_mark(text: &str) -> Option<Mark> {
-    let plan = json::read(text)?;
-    let mark = plan.member("mark")?;
-    let contacts = usize::try_from(mark.member("contacts")?.whole()?).ok()?;
-    Some(Mark { contacts, largest: mark.member("largest")?.whole()? })
 }

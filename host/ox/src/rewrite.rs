@@ -1,25 +1,24 @@
 //! A file read, its contacts normalised, and written back.
 
-use crate::files::{self, Out};
+use crate::files::{In, Out};
 use crate::refused;
 use crate::table::cell;
 use crate::{Failure, Said, done};
 use oxbreathe::reading::{Field, Record, read, table};
 use oxbreathe::writing::journal_header;
 use oxbreathe::{Refusal, text};
-use std::path::Path;
 
-pub fn run(from: &Path, out: &Out) -> Result<Said, Failure> {
+pub fn run(from: &In, out: &Out) -> Result<Said, Failure> {
     out.check(&[from])?;
-    let bytes = files::read(from)?;
+    let bytes = from.read()?;
     let mut rows = table(&bytes);
     let file = refused::of(from, &bytes, read(&bytes, &mut rows))?;
     let mut written = refused::of(from, &bytes, journal_header(&mut [0; 64]).map(<[u8]>::to_vec))?;
     let mut said = String::new();
     for record in file.records() {
         let (bytes, lost) = rewritten(&record).map_err(|why| {
-            let (path, number) = (from.display(), record.number());
-            Failure::Refused(format!("{path}: record {number}: refused {}: {}\n", why.number(), why.cause.name()), None)
+            let number = record.number();
+            Failure::Refused(format!("{from}: record {number}: refused {}: {}\n", why.number(), why.cause.name()))
         })?;
         written.extend(bytes);
         for Field { name, value } in lost {
@@ -27,7 +26,7 @@ pub fn run(from: &Path, out: &Out) -> Result<Said, Failure> {
         }
     }
     // what is written must read again
-    refused::of(&out.path, &written, text::check(&written))?;
+    refused::of(&In::named(out.path.clone()), &written, text::check(&written))?;
     out.write(&written)?;
     let records = if file.len() == 1 { "record" } else { "records" };
     done(format!("{said}{}: {} {records}\n", out.path.display(), file.len()))

@@ -1,5 +1,5 @@
-//! Oxbreathe for Rust: safe calls of the proved library, with no dependencies. It links `liboxbreathe.a`, which
-//! `make library` writes to target/staticlib; Cargo looks there, and rustc is told by `-L native=`.
+//! Oxbreathe for Rust: safe calls of the proved library, with no dependencies. It links `liboxbreathe.a`, for x86-64 Linux, which is
+//! shipped in the folder `dist`; Cargo looks there, or in the folder `OXBREATHE_LIB`, and rustc is told by `-L native=`.
 //!
 //! Every call takes any bytes and answers with a value or a [`Refusal`]; none panics. What a value holds of a text is a part
 //! of that text: nothing is copied that can be borrowed.
@@ -75,6 +75,19 @@ pub mod text;
 pub mod writing;
 
 pub use refusal::{Cause, Refusal};
+
+/// The SHA-256 over the sources that the library was built from, as the file `BUILT` beside the archive tells it.
+pub const SOURCES: &str = told(option_env!("OXBREATHE_SOURCES"));
+
+/// The kit of Rattle that proved and compiled them.
+pub const KIT: &str = told(option_env!("OXBREATHE_KIT"));
+
+const fn told(built: Option<&'static str>) -> &'static str {
+    match built {
+        Some(told) => told,
+        None => "unknown",
+    }
+}
 
 /// The longest text, list or output that the library takes, in bytes.
 pub const LONGEST: usize = 16_777_216;

@@ -4,47 +4,81 @@
 #![forbid(unsafe_code)]
 
 mod args;
+mod digest;
+mod encoding;
 mod files;
+mod fresh;
 mod html;
 mod json;
 mod list;
 mod preview;
+mod progress;
 mod refused;
 mod rewrite;
+mod saved;
 mod table;
 
 use args::Command;
 use std::io::{self, IsTerminal, Write};
 use std::process::ExitCode;
 
-/// What a command says, and its exit status.
+/// What a command says on standard output and on standard error, in order, and its exit status.
+#[derive(Default)]
 struct Said {
-    text: String,
+    parts: Vec<Part>,
     status: u8,
+}
+
+enum Part {
+    Out(String),
+    Err(String),
+}
+
+impl Said {
+    fn out(&mut self, text: impl Into<String>) {
+        self.parts.push(Part::Out(text.into()));
+    }
+
+    fn err(&mut self, text: impl Into<String>) {
+        self.parts.push(Part::Err(text.into()));
+    }
+
+    /// The worst of the statuses counts.
+    fn status(&mut self, status: u8) {
+        self.status = self.status.max(status);
+    }
 }
 
 /// Why a command did nothing.
 enum Failure {
-    /// How it was called, with the name of the help that says more.
-    Usage(&'static str, String),
     /// A file that cannot be read or written.
     File(String),
-    /// The library refuses. The text is said on standard error; the JSON, if it was asked for, on standard output.
-    Refused(String, Option<String>),
+    /// The library refuses.
+    Refused(String),
 }
 
-fn done(text: String) -> Result<Said, Failure> {
-    Ok(Said { text, status: 0 })
+impl Failure {
+    /// What is said of it, and the exit status.
+    fn told(self) -> (String, u8) {
+        match self {
+            Failure::File(what) => (format!("ox: {what}\n"), 2),
+            Failure::Refused(what) => (what, 1),
+        }
+    }
+}
+
+fn done(text: impl Into<String>) -> Result<Said, Failure> {
+    Ok(Said { parts: vec![Part::Out(text.into())], status: 0 })
 }
 
 fn run() -> Result<Said, Failure> {
-    match args::command(std::env::args_os().skip(1))? {
-        Command::Help(text) => done(text.to_string()),
+    match args::command(std::env::args_os()) {
         Command::Preview(asked) => preview::run(&asked, is_coloured()),
         Command::List { from, out } => list::make(&from, &out),
         Command::ListShow { list } => list::show(&list),
-        Command::Fresh { plan, list } => list::fresh(&plan, &list),
+        Command::Fresh(asked) => fresh::run(&asked),
         Command::Rewrite { from, out } => rewrite::run(&from, &out),
+        Command::Completions(shell) => done(args::completions(shell)),
     }
 }
 
@@ -71,20 +105,16 @@ fn complain(text: &str) {
 }
 
 fn main() -> ExitCode {
-    let status = match run() {
-        Ok(Said { text, status }) => say(&text).then_some(status),
-        Err(Failure::Usage(command, what)) => {
-            complain(&format!("ox: {what}\nTry: ox {command}--help\n"));
-            None
+    let said = run().unwrap_or_else(|failure| {
+        let (text, status) = failure.told();
+        Said { parts: vec![Part::Err(text)], status }
+    });
+    let all_said = said.parts.iter().all(|part| match part {
+        Part::Out(text) => say(text),
+        Part::Err(text) => {
+            complain(text);
+            true
         }
-        Err(Failure::File(what)) => {
-            complain(&format!("ox: {what}\n"));
-            None
-        }
-        Err(Failure::Refused(what, json)) => {
-            complain(&what);
-            say(&json.unwrap_or_default()).then_some(1)
-        }
-    };
-    ExitCode::from(status.unwrap_or(2))
+    });
+    ExitCode::from(if all_said { said.status } else { 2 })
 }

@@ -1,14 +1,15 @@
 //! A refusal, said so that one can mend the file: what it means, the field, the line and the place in it.
 
-use crate::json::{Object, quoted};
-use crate::{Failure, table};
+use crate::files::In;
+use crate::html::{Excerpt, Fault};
+use crate::{Failure, encoding, json, table};
 use oxbreathe::{Cause, Refusal};
+use serde::Serialize;
 use std::ops::Range;
-use std::path::Path;
 
 /// What the library refuses, and what it refuses it for.
 pub struct Refused<'a> {
-    pub path: &'a Path,
+    pub input: &'a In,
     pub bytes: &'a [u8],
     pub why: Refusal,
 }
@@ -52,7 +53,25 @@ impl Spot {
     }
 }
 
-impl Refused<'_> {
+/// As JSON has it.
+#[derive(Serialize)]
+struct Told<'a> {
+    file: String,
+    refused: u32,
+    meaning: &'static str,
+    #[serde(skip_serializing_if = "Option::is_none")]
+    field: Option<&'a str>,
+    #[serde(skip_serializing_if = "Option::is_none")]
+    line: Option<usize>,
+    #[serde(skip_serializing_if = "Option::is_none")]
+    column: Option<usize>,
+    #[serde(skip_serializing_if = "Option::is_none")]
+    wanted: Option<u64>,
+    #[serde(skip_serializing_if = "Option::is_none")]
+    left: Option<u64>,
+}
+
+impl<'a> Refused<'a> {
     /// Where it is, as far as the library tells. Of a tag without its end it does not: that is the last `<` that no `>` follows.
     fn spot(&self) -> Option<Spot> {
         let unterminated = || {
@@ -63,10 +82,10 @@ impl Refused<'_> {
     }
 
     /// What to do about it.
-    fn advice(&self) -> Option<&'static str> {
-        Some(match self.why.cause {
+    fn advice(&self) -> Vec<String> {
+        let advice = match self.why.cause {
             Cause::TooLong => "Cut the file into smaller ones.",
-            Cause::NotUtf8 => "Save the file as UTF-8; names with accents may be in an older encoding.",
+            Cause::NotUtf8 => return self.why.at().map(|at| encoding::advice(self.bytes, at.start)).unwrap_or_default(),
             Cause::UnterminatedTag => {
                 "The file may have been cut off: fetch it again, or end it behind the last <EOR>."
             }
@@ -84,21 +103,31 @@ impl Refused<'_> {
                 "This seems to be a log in ADIF: make a list of it with ox list."
             }
             Cause::ListVersion | Cause::MalformedList | Cause::IdsNotRising => "Make the list again, with ox list.",
-            _ => return None,
-        })
+            _ => return Vec::new(),
+        };
+        vec![advice.to_string()]
     }
 
-    fn text(&self) -> String {
-        let Refused { path, bytes, why } = self;
-        let mut said = format!("{}: refused {}: {}\n", path.display(), why.number(), why.cause.name());
-        let name = why.name(bytes).filter(|name| !name.is_empty()).map(|name| format!("field {}", table::plain(name)));
+    fn lengths(&self) -> Option<(u64, u64)> {
+        (self.why.cause == Cause::TruncatedValue).then_some((self.why.wanted, self.why.left))
+    }
+
+    /// The field, the place and the lengths, in words.
+    fn facts(&self, spot: Option<&Spot>) -> String {
+        let name = self.why.name(self.bytes).filter(|name| !name.is_empty());
+        let field = name.map(|name| format!("field {}", table::plain(name)));
+        let place = spot.map(|spot| format!("line {}, column {}", spot.line, spot.column));
+        let lengths = self.lengths().map(|(wanted, left)| format!("{wanted} bytes wanted, {left} left"));
+        [field, place, lengths].into_iter().flatten().collect::<Vec<_>>().join(", ")
+    }
+
+    pub fn text(&self) -> String {
+        let Refused { input, why, .. } = self;
+        let mut said = format!("{input}: refused {}: {}\n", why.number(), why.cause.name());
         let spot = self.spot();
-        let place = spot.as_ref().map(|spot| format!("line {}, column {}", spot.line, spot.column));
-        let lengths =
-            (why.cause == Cause::TruncatedValue).then(|| format!("{} bytes wanted, {} left", why.wanted, why.left));
-        let facts: Vec<_> = [name, place, lengths].into_iter().flatten().collect();
+        let facts = self.facts(spot.as_ref());
         if !facts.is_empty() {
-            said += &format!("  {}\n", facts.join(", "));
+            said += &format!("  {facts}\n");
         }
         if let Some(Spot { line, shown, meant, .. }) = spot {
             let number = line.to_string();
@@ -106,39 +135,40 @@ impl Refused<'_> {
             said += &format!("  {:1$} | ", "", number.len());
             said += &format!("{:1$}{2}\n", "", meant.start, "^".repeat(meant.len()));
         }
-        if let Some(advice) = self.advice() {
-            said += &format!("  {advice}\n");
-        }
-        said
+        said + &self.advice().iter().map(|line| format!("  {line}\n")).collect::<String>()
     }
 
-    fn json(&self) -> String {
-        let Refused { path, bytes, why } = self;
-        let mut object = Object::new();
-        object.put("file", &quoted(&path.to_string_lossy()));
-        object.put("refused", &why.number().to_string());
-        object.put("meaning", &quoted(why.cause.name()));
-        if let Some(name) = why.name(bytes) {
-            object.put("field", &quoted(name));
-        }
-        if let Some(Spot { line, column, .. }) = self.spot() {
-            object.put("line", &line.to_string());
-            object.put("column", &column.to_string());
-        }
-        if why.cause == Cause::TruncatedValue {
-            object.put("wanted", &why.wanted.to_string());
-            object.put("left", &why.left.to_string());
-        }
-        object.end()
+    pub fn json(&self) -> String {
+        let Refused { input, bytes, why } = self;
+        let spot = self.spot();
+        json::text(&Told {
+            file: input.to_string(),
+            refused: why.number(),
+            meaning: why.cause.name(),
+            field: why.name(bytes),
+            line: spot.as_ref().map(|spot| spot.line),
+            column: spot.as_ref().map(|spot| spot.column),
+            wanted: self.lengths().map(|(wanted, _)| wanted),
+            left: self.lengths().map(|(_, left)| left),
+        })
     }
 
-    /// As a failure of a command.
-    pub fn failure(&self, json: bool) -> Failure {
-        Failure::Refused(self.text(), json.then(|| self.json()))
+    /// As a page tells it.
+    pub fn with_fault<T>(&self, told: impl FnOnce(&Fault) -> T) -> T {
+        let spot = self.spot();
+        told(&Fault {
+            number: self.why.number(),
+            meaning: self.why.cause.name(),
+            facts: &self.facts(spot.as_ref()),
+            excerpt: spot
+                .as_ref()
+                .map(|Spot { line, shown, meant, .. }| Excerpt { line: *line, shown, meant: meant.clone() }),
+            advice: &self.advice().join("\n"),
+        })
     }
 }
 
-/// What the library answers about a file, or the refusal as a failure.
-pub fn of<T>(path: &Path, bytes: &[u8], answer: Result<T, Refusal>) -> Result<T, Failure> {
-    answer.map_err(|why| Refused { path, bytes, why }.failure(false))
+/// What the library answers about what was read, or the refusal as a failure.
+pub fn of<T>(input: &In, bytes: &[u8], answer: Result<T, Refusal>) -> Result<T, Failure> {
+    answer.map_err(|why| Failure::Refused(Refused { input, bytes, why }.text()))
 }
