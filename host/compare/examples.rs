@@ -1,5 +1,5 @@
-//! Document 01's checked examples, each with the answer that the paper gives: the library's, and where its sources are at hand the
-//! original's, which differs only where the paper records a departure.
+//! The checked examples of docs/SCOPE.md, each with the answer that the page gives: the library's, and where its sources are at hand the
+//! original's, which differs only where the page names a departure.
 
 #[cfg(original)]
 use crate::harness::unless_panics;

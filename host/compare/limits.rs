@@ -1,5 +1,5 @@
-//! What each call refuses that takes a text or a list, by document 01's table and the order below it: each of its texts one byte too long,
-//! not UTF-8, and both. A refused call leaves its tables zero, its outputs untouched, and nothing in its answer but what it tells.
+//! What each call refuses that takes a text or a list, by the table of docs/SCOPE.md and the order below it: each of its
+//! texts one byte too long, not UTF-8, and both. A refused call leaves its tables zero, its outputs untouched, and nothing in its answer but what it tells.
 
 use crate::contacts::USED;
 use crate::files::EMPTY;

@@ -379,7 +379,7 @@ fn used(fates: &[Fated]) -> (Vec<(u32, u32)>, Vec<Fated>) {
 
 // Groups.
 
-/// Document 01's example, as `showplan` prints it.
+/// The example of docs/SCOPE.md, as `showplan` prints it.
 pub fn example(g: &mut Group) {
     let (text, shown) = EXAMPLE;
     let case = Case { text: text.into(), list: EMPTY.to_vec(), window: 1800, download: false };

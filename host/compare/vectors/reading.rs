@@ -38,7 +38,7 @@ fn shown(answer: &ReadAnswer, table: &[u32]) -> String {
     numbers.map(|n| n.to_string()).collect::<Vec<_>>().join(" ")
 }
 
-/// Document 01's examples and each refusal's edges first, then random documents.
+/// The examples of docs/SCOPE.md and each refusal's edges first, then random documents.
 fn questions(random: &mut Random) -> Vec<Question> {
     let mut all: Vec<Question> = Vec::new();
     let mut add = |text: &[u8], numbers: usize| all.push(("read", vec![Text(text.to_vec()), Number(numbers as u64)]));
