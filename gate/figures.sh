@@ -1,5 +1,5 @@
 #!/bin/sh
-# Figures for the README: gate/figures.sh [LOG]
+# Figures for docs/FIGURES.md: gate/figures.sh [LOG]
 # The size of the repository, as a table; and from LOG, what a gate or `rt check` printed, the seconds of each part of the gate, of each
 # crate's proof, and of each crate's must-fail edits. Lines that are not blank are counted.
 set -u

@@ -1,4 +1,4 @@
-# Holds include/oxbreathe.h and host/oxbreathe/sys.rs against what the crates export (exported.awk, which comes before it): each
+# Holds include/oxbreathe.h and host/oxbreathe/src/sys.rs against what the crates export (exported.awk, which comes before it): each
 # parameter of each call and each field of each struct in its place, by name and type, each answer, and that nothing else is declared.
 # Where the header's fields then lie, the program of host/importer/layout.awk tests.
 BEGIN {

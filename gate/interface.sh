@@ -1,15 +1,15 @@
 #!/bin/sh
-# What the crates export is what include/oxbreathe.h and host/oxbreathe/sys.rs declare, by the name, the place and the type of each
+# What the crates export is what include/oxbreathe.h and host/oxbreathe/src/sys.rs declare, by the name, the place and the type of each
 # parameter and field; each call has an example in the header and is made by the C program's own test; each that takes a text is asked for
 # its limits; and each safe function of the Rust crate is given hostile bytes.
 set -u
 cd "$(dirname "$0")/.." || exit 1
-header=include/oxbreathe.h sys=host/oxbreathe/sys.rs
+header=include/oxbreathe.h sys=host/oxbreathe/src/sys.rs
 passed=0 failed=0
 log=$(mktemp -d)
 trap 'rm -rf "$log"' EXIT
 exported=$(sed -n 's/^pub extern "C" fn \(ox_[a-z0-9_]*\)(.*/\1/p' crates/ox_*/src/*.rt)
-safe=$(find host/oxbreathe -name '*.rs' ! -name sys.rs -exec sed -n 's/^ *pub fn \([a-z_]*\).*/\1/p' {} + | sort -u)
+safe=$(find host/oxbreathe/src -name '*.rs' ! -name sys.rs -exec sed -n 's/^ *pub fn \([a-z_]*\).*/\1/p' {} + | sort -u)
 
 # tested STATUS COMPLAINT: one test
 tested() {

@@ -4,7 +4,7 @@ set -u
 cd "$(dirname "$0")/.." || exit 1
 passed=0 failed=0
 for text in samples/plans/*.adi; do
-    if host/preview.sh "$text" | cmp -s - "${text%.adi}.txt"; then
+    if gate/showplan.sh "$text" | cmp -s - "${text%.adi}.txt"; then
         passed=$((passed + 1))
     else
         failed=$((failed + 1))

@@ -70,12 +70,20 @@ part samples gate/samples.sh
 # shellcheck disable=SC2046
 count $(told 'samples: \([0-9]*\) passed, \([0-9]*\) failed')
 
+# a program can be tried with no proof, which is quick while one writes it
+part try rt try showplan
+count $((status == 0)) 0
+
 part interface gate/interface.sh
 # shellcheck disable=SC2046
 count $(told 'interface: \([0-9]*\) passed, \([0-9]*\) failed')
 
 part library host/host.sh library
 count $((status == 0)) 0
+
+part dist gate/dist.sh
+# shellcheck disable=SC2046
+count $(told 'dist: \([0-9]*\) passed, \([0-9]*\) failed')
 
 # beside the parts that use one processor
 beside host host/host.sh compare
@@ -87,6 +95,13 @@ count $(told 'importer: \([0-9]*\) passed, \([0-9]*\) failed')
 part ox host/host.sh ox-test
 # shellcheck disable=SC2046
 count $(told 'ox: \([0-9]*\) passed, \([0-9]*\) failed')
+
+# where no browser can be fetched the part says so, and counts for nothing
+part browser host/host.sh browser
+if grep -q '^browser: not run: ' "$log/out"; then status=0 && count 0 0; else
+    # shellcheck disable=SC2046
+    count $(told 'browser: \([0-9]*\) passed, \([0-9]*\) failed')
+fi
 
 part doc host/host.sh doc
 # shellcheck disable=SC2046

@@ -1,21 +1,24 @@
 #!/bin/sh
-# Builds the test host (the library, Rust's std and the original rigflow in one process) and runs it:
-#   host/host.sh library          target/staticlib/liboxbreathe.a
-#   host/host.sh compare [full]   the library's answers against std's and the original's, group by group
-#   host/host.sh doc              the examples in the documentation of the Rust crate, and the README's
-#   host/host.sh importer         the C program over include/oxbreathe.h, its own test, the header's examples
+# Builds what stands beside the crates, and runs it. Linked with the library of dist/, which is shipped:
+#   host/host.sh preview FILE     what importing a file would do, by ox
 #   host/host.sh ox               the tool for the log desk, target/ox
-#   host/host.sh ox-test          the tool on the samples against stored outputs, and on what it must refuse
+#   host/host.sh install          ox, its manual page and its completions below $DESTDIR$PREFIX
+#   host/host.sh crates           what ox is made with, for cargo in host/
+# With the library that rt builds of the crates:
+#   host/host.sh library          target/staticlib/liboxbreathe.a
+#   host/host.sh dist             the same, into dist/
+#   host/host.sh compare [full]   its answers against std's and the original's, group by group
+#   host/host.sh doc              what cargo builds, tests and documents, and the examples of the README
+#   host/host.sh importer         the C program over include/oxbreathe.h, its own test, the header's examples
+#   host/host.sh ox-test          the tool on the samples against stored outputs, and on what it must refuse; installed
+#   host/host.sh browser          the page of --html in a real browser
 #   host/host.sh bench            instructions of both between marks, one table; on x86-64 times as well
 #   host/host.sh stack            the stack that each exported call takes
 #   host/host.sh record [DIR]     the answers of std and the original as vectors, into DIR (else where they are kept)
 # RIGFLOW_SRC: the original's sources. OXBREATHE_CACHE: where fetched packages stay. OXBREATHE_LIB: a folder with
-# a liboxbreathe.a to use instead of the one that rt builds. SEED and ONLY: see compare/main.rs.
+# a liboxbreathe.a to use instead. SEED and ONLY: see compare/main.rs.
 #
-# On x86-64 the machine's rustc and cc build it. On aarch64 Debian's rustc-web (unpacked, never installed) builds it
-# for x86-64, which is all that rt's static library is for; the kit's clang, with Debian's headers, compiles what is C,
-# the kit's lld links it and the kit's qemu runs it. No root is needed, and no network but Debian's packages, each
-# fetched once.
+# No root is needed, and no network but Debian's packages, each fetched once.
 set -eu
 root=$(cd "$(dirname "$0")/.." && pwd -P)
 host=$root/host
@@ -24,7 +27,6 @@ out=$root/.cache/host # this checkout's own build; what checkouts can share is i
 vectors=$root/crates/replay/data
 samples=$root/samples/plans # files beside what showplan prints of them
 arch=$(uname -m)
-target=x86_64-unknown-linux-gnu
 
 say() { echo "host: $*"; }
 die() {
@@ -32,144 +34,8 @@ die() {
     exit 1
 }
 
-# ---- Debian's packages, with lists and a cache of their own, for both architectures, whatever dpkg was told
-
-apt_ready() {
-    [ -z "${apt:-}" ] || return 0
-    for tool in apt-get dpkg dpkg-deb; do
-        command -v $tool >/dev/null || die "cannot fetch $1: no $tool on this machine"
-    done
-    mkdir -p "$cache/apt/lists/partial" "$cache/apt/cache/archives/partial"
-    apt="-q=2 -o Dir::State=$cache/apt -o Dir::State::lists=$cache/apt/lists -o Dir::State::status=/var/lib/dpkg/status
-         -o Dir::Cache=$cache/apt/cache -o APT::Architectures::=$(dpkg --print-architecture) -o APT::Architectures::=amd64
-         -o APT::Sandbox::User= -o Acquire::Languages=none -o Acquire::Retries=3 -o Debug::NoLocking=1"
-    # shellcheck disable=SC2086
-    apt-get $apt update >"$cache/apt/log" 2>&1 || unfetched "$1"
-}
-# unfetched PACKAGE..: apt's first complaint is the cause, the later ones follow from it
-unfetched() { die "cannot fetch $*: $(grep -m 1 '^[WE]:' "$cache/apt/log")"; }
-# unpack DIR PACKAGE..: the packages' files, below DIR
-unpack() {
-    into=$1
-    shift
-    say "fetching $*"
-    rm -rf "$into" "$cache/debs"
-    mkdir -p "$into" "$cache/debs"
-    # shellcheck disable=SC2086
-    (cd "$cache/debs" && apt-get $apt download "$@") >>"$cache/apt/log" 2>&1 || unfetched "$@"
-    for deb in "$cache"/debs/*.deb; do
-        dpkg-deb --fsys-tarfile "$deb" | tar -x -C "$into" --exclude=./usr/share/doc --exclude=./usr/share/man
-    done
-    rm -rf "$cache/debs"
-}
-# lacking PACKAGE: it and what it needs, as far as the machine has them not
-# shellcheck disable=SC2086
-lacking() { apt-get $apt install -s --no-install-recommends "$1" | awk '/^Inst/ {print $2}'; }
-
-# ---- compilers for x86-64: $cc for C, $rustc with $flags for Rust, and $run to run what they built
-
-kit_tools() {
-    command -v rt >/dev/null || die "no rt: the Rattle kit builds the library"
-    kit=${RATTLE_HOME:-$(dirname "$(dirname "$(readlink -f "$(command -v rt)")")")}
-    tools=$kit/on/$arch/toolchain
-}
-no_recipe() { die "no recipe for a machine of kind $arch"; }
-# alone COMMAND..: one checkout at a time fetches into the cache
-alone() {
-    exec 9>"$cache/lock"
-    flock 9
-    "$@"
-    exec 9>&-
-}
-for_c() {
-    run=''
-    case $arch in
-    x86_64)
-        command -v cc >/dev/null || die "no cc to build C with"
-        cc=cc
-        ;;
-    aarch64)
-        linker
-        c_headers
-        cc="$link/cc -nostdinc $(printf ' -isystem %s' "$cache"/c/usr/lib/gcc/*/*/include "$cache"/c/usr/include/*-linux-gnu "$cache/c/usr/include")"
-        ;;
-    *) no_recipe ;;
-    esac
-}
-for_rust() {
-    run=''
-    case $arch in
-    x86_64)
-        command -v rustc >/dev/null || die "no rustc: Rust 1.85 or newer is needed to build the host"
-        rustc=rustc rustdoc=rustdoc flags=''
-        ;;
-    aarch64)
-        linker
-        cross
-        rustc=$link/rustc rustdoc=$link/rustdoc flags="--target $target -C linker=$link/cc"
-        ;;
-    *) no_recipe ;;
-    esac
-}
-# the kit's clang, with its C library; made once, since another part of the gate may be using it
-linker() {
-    kit_tools
-    run=$tools/bin/qemu-x86_64 link=$out/link
-    if [ "$(cat "$link/ok" 2>/dev/null)" = "$tools" ] && [ "$link/ok" -nt "$0" ] && [ "$link/ok" -nt "$host/emulator/shim.c" ]; then
-        return 0
-    fi
-    mkdir -p "$link"
-    # the kit's C library has no linker scripts: these stand for them
-    for lib in util rt pthread dl; do "$tools/bin/llvm-ar" rc "$link/lib$lib.a"; done
-    echo "GROUP ( $tools/lib/libc.so.6 $tools/lib/libc_nonshared.a AS_NEEDED ( $tools/lib/ld-linux-x86-64.so.2 ) )" >"$link/libc.so"
-    echo "GROUP ( $tools/lib/libgcc_s.so.1 $tools/lib/libgcc.a )" >"$link/libgcc_s.so"
-    echo "INPUT ( $tools/lib/libm.so.6 )" >"$link/libm.so"
-    "$tools/bin/clang" --target=$target -O2 -fPIC -c "$host/emulator/shim.c" -o "$link/shim.o"
-    script "$link/cc" "$tools/bin/clang --target=$target --ld-path=$tools/bin/ld.lld -nostartfiles -Wl,--dynamic-linker=$tools/lib/ld-linux-x86-64.so.2 -Wl,-rpath,$tools/lib -L $link -L $tools/lib $tools/lib/Scrt1.o $tools/lib/crti.o $tools/lib/crtbeginS.o $link/shim.o \"\$@\" $tools/lib/crtendS.o $tools/lib/crtn.o"
-    echo "$tools" >"$link/ok"
-}
-# script FILE COMMAND: a script that becomes the command; in one step, since the one before it may be running
-script() {
-    printf '#!/bin/sh\nexec %s\n' "$2" >"$1.new"
-    chmod +x "$1.new"
-    mv "$1.new" "$1"
-}
-# the C library's headers and a compiler's own, neither of which the kit has
-c_headers() {
-    [ ! -f "$cache/c.ok" ] || return 0
-    apt_ready libc6-dev
-    # shellcheck disable=SC2086
-    own=$(apt-cache $apt pkgnames libgcc- | grep -x 'libgcc-[0-9]*-dev' | sort -V | tail -n 1)
-    [ -n "$own" ] || die "cannot fetch a compiler's headers: no libgcc-N-dev"
-    unpack "$cache/c" libc6-dev:amd64 linux-libc-dev:amd64 "$own:amd64"
-    touch "$cache/c.ok"
-}
-cross() {
-    if [ ! -f "$cache/rust.ok" ]; then
-        apt_ready rustc-web
-        here=$(dpkg --print-architecture)
-        # the newest version that both architectures have
-        # shellcheck disable=SC2086
-        version=$(apt-cache $apt madison rustc-web | awk '{print $3}' | while read -r v; do
-            if apt-cache $apt show "libstd-rust-web-dev:amd64=$v" >/dev/null 2>&1; then
-                echo "$v"
-                break
-            fi
-        done)
-        [ -n "$version" ] || die "cannot fetch rustc-web: none that has a libstd-rust-web-dev:amd64"
-        # shellcheck disable=SC2086
-        std=$(apt-cache $apt show "libstd-rust-web-dev=$version" | sed -n 's/^Depends:.*\(libstd-rust-web-[0-9][0-9.]*\).*/\1/p' | head -n 1)
-        # shellcheck disable=SC2086
-        llvm=$(apt-cache $apt show "$std=$version" | sed -n 's/^Depends:.*\(libllvm[0-9]*\).*/\1/p' | head -n 1)
-        # shellcheck disable=SC2046
-        unpack "$cache/rust" "rustc-web=$version" "$std:$here=$version" "libstd-rust-web-dev:amd64=$version" \
-            "libstd-rust-web-dev:$here=$version" $(lacking "$llvm")
-        touch "$cache/rust.ok"
-    fi
-    for tool in rustc rustdoc; do
-        script "$link/$tool" "env LD_LIBRARY_PATH=$(echo "$cache"/rust/usr/lib/*-linux-gnu) $cache/rust/usr/bin/$tool \"\$@\""
-    done
-}
+. "$host/debian.sh"
+. "$host/compilers.sh"
 
 # ---- the parts, each a plain call of rustc
 
@@ -249,7 +115,9 @@ staticlib() {
         (cd "$archive" && "$tools/bin/llvm-ar" x "lib$area.a" "$area.o" && "$tools/bin/llvm-ar" rcs "$made.new" "$area.o" && rm "$area.o")
     done
     rm -rf "$root/target/lanes"
+    printf 'sources %s\nkit %s\n' "$("$host/sources.sh")" "$(rt version)" >"$archive/BUILT"
     mv "$made.new" "$made"
+    (cd "$archive" && sha256sum liboxbreathe.a >liboxbreathe.a.sha256)
 }
 # area NAME: one of them, in its lane
 area() {
@@ -277,6 +145,14 @@ library() {
     [ -n "${OXBREATHE_LIB:-}" ] || staticlib
     [ -f "$archive/liboxbreathe.a" ] || die "no $archive/liboxbreathe.a"
 }
+# What is shipped is what was built, with what it was built from beside it.
+dist() {
+    archive=$root/target/staticlib
+    staticlib
+    mkdir -p "$root/dist"
+    for file in liboxbreathe.a liboxbreathe.a.sha256 BUILT; do cp "$archive/$file" "$root/dist/"; done
+    cat "$root/dist/BUILT"
+}
 # wrapper NAME OPTION..: the Rust crate over it, for the program NAME and in its folder, $to
 wrapper() {
     library
@@ -284,7 +160,7 @@ wrapper() {
     to=$out/$1
     mkdir -p "$to"
     shift
-    crate oxbreathe 2024 "$host/oxbreathe/lib.rs" --crate-type rlib -L "native=$archive" "$@"
+    crate oxbreathe 2024 "$host/oxbreathe/src/lib.rs" --crate-type rlib -L "native=$archive" "$@"
 }
 # build NAME OPTION..: the program NAME; the options are for the original and for the crate
 build() {
@@ -330,17 +206,20 @@ stack() {
     build bench
     $run "$to/bench" stack
 }
-# The examples in the crate's documentation, and those of Rust in the README.
+# What cargo builds, tests and documents of the workspace; and the examples of Rust in the README.
 doc() {
     wrapper doc
+    alone for_cargo
     awk '/^```rust$/, /^```$/' "$root/README.md" >"$to/README.md"
-    for documented in "$host/oxbreathe/lib.rs" "$to/README.md"; do
+    {
         # shellcheck disable=SC2086
         "$rustdoc" --test --crate-name oxbreathe --edition 2024 $flags ${run:+--test-runtool "$run"} -L "$to" -L "native=$archive" \
-            --extern oxbreathe="$to/liboxbreathe.rlib" "$documented" || :
-    done | tee "$to/told"
-    awk '/^test result:/ {files++; passed += $4; failed += $6}
-         END {if (files < 2 || passed == 0) failed++; printf "doc: %d passed, %d failed\n", passed, failed; exit failed > 0}' "$to/told"
+            --extern oxbreathe="$to/liboxbreathe.rlib" "$to/README.md" || :
+        OXBREATHE_LIB=$archive "$host/cargo.sh" "$cargo" 2>&1 || :
+    } | tee "$to/told"
+    awk '/^test result:/ {results++; passed += $4; failed += $6}
+         /^cargo: [0-9]+ passed, [0-9]+ failed$/ {cargo++; passed += $2; failed += $4}
+         END {if (results < 4 || cargo != 1 || passed == 0) failed++; printf "doc: %d passed, %d failed\n", passed, failed; exit failed > 0}' "$to/told"
 }
 # The C program, the examples of the header and the README, the header's structs beside the crates', and one of C++, built and tested.
 importer() {
@@ -364,18 +243,73 @@ importer() {
     linked cpp -std=c++11 "$host/importer/header.cc"
     "$host/importer/test.sh" "$to" $run
 }
-# The tool for the log desk, and a program that makes its largest files.
+# ox, as its users get it, in $program, linked with the library in a folder; built anew where a file is newer
+built_ox() {
+    alone for_cargo
+    program=$out/cargo/$target/release/ox
+    [ "$(cat "$out/ox.built" 2>/dev/null)" != "$1" ] || [ ! -x "$program" ] ||
+        [ -n "$(find "$host/ox" "$host/oxbreathe" "$host/Cargo.toml" "$host/Cargo.lock" "$1/" -newer "$out/ox.built" | head -n 1)" ] || return 0
+    rm -f "$out/ox.built"
+    going 'building ox' ox_by_cargo "$1" || exit 1
+    echo "$1" >"$out/ox.built"
+}
+ox_by_cargo() { cd "$host" && OXBREATHE_LIB=$1 "$cargo" build --release --locked --package ox --example largest --bin ox; }
+# the library that is shipped, or another that was named
+shipped() { echo "${OXBREATHE_LIB:-$root/dist}"; }
+# put_ox FOLDER BESIDE: the program in a folder; on a machine of another kind its starter, and the program itself in another
+put_ox() {
+    case $arch in
+    x86_64) install -D -m 755 "$program" "$1/ox" ;;
+    *)
+        install -D -m 755 "$host/ox/start.sh" "$1/ox"
+        install -D -m 755 "$program" "$2/ox.x86_64"
+        ;;
+    esac
+}
 ox() {
-    wrapper ox
-    crate ox 2024 "$host/ox/main.rs" --extern oxbreathe="$to/liboxbreathe.rlib"
-    mkdir -p "$root/target"
-    script "$root/target/ox" "${run:+\"$run\" }\"$to/ox\" \"\$@\""
+    built_ox "$(shipped)"
+    put_ox "$root/target" "$root/target"
+}
+preview() {
+    [ $# = 1 ] && [ -n "$1" ] || die 'usage: make preview FILE=log.adi'
+    built_ox "$(shipped)"
+    # shellcheck disable=SC2086
+    exec $run "$program" preview "$1"
+}
+# Where each thing belongs below $DESTDIR$PREFIX.
+below=${DESTDIR:-}${PREFIX:-/usr/local}
+completions='bash share/bash-completion/completions/ox
+zsh share/zsh/site-functions/_ox
+fish share/fish/vendor_completions.d/ox.fish'
+install_ox() {
+    built_ox "$(shipped)"
+    put_ox "$below/bin" "$below/libexec/oxbreathe"
+    install -D -m 644 "$host/ox/ox.1" "$below/share/man/man1/ox.1"
+    echo "$completions" | while read -r shell file; do
+        mkdir -p "$(dirname "$below/$file")"
+        # shellcheck disable=SC2086
+        $run "$program" completions "$shell" >"$below/$file"
+    done
+    say "installed $below/bin/ox, its manual page, and completions for bash, zsh and fish"
+    [ "$arch" = x86_64 ] || say "ox is a program for x86-64: on this machine it needs Debian's qemu-user, or Rattle's kit"
+}
+uninstall_ox() {
+    # shellcheck disable=SC2046
+    (cd "$below" && rm -f bin/ox libexec/oxbreathe/ox.x86_64 share/man/man1/ox.1 $(echo "$completions" | cut -d ' ' -f 2))
+    rmdir "$below/libexec/oxbreathe" 2>/dev/null || :
 }
 ox_test() {
-    ox
-    crate largest 2024 "$host/ox/largest.rs" --extern oxbreathe="$to/liboxbreathe.rlib"
+    library
+    built_ox "$archive"
     # shellcheck disable=SC2086
-    "$host/ox/test.sh" "$to" $run
+    "$host/ox/test.sh" "$(dirname "$program")" $run
+}
+browser() {
+    library
+    built_ox "$archive"
+    . "$host/browser/chromium.sh"
+    # shellcheck disable=SC2086
+    alone browser_ready && "$host/browser/test.sh" "$out/browser" $run "$program"
 }
 # linked NAME OPTION.. FILE..: a program of C, in $to
 # shellcheck disable=SC2086
@@ -395,10 +329,19 @@ compare)
     *) die "compare takes nothing, or full" ;;
     esac
     ;;
+preview)
+    shift
+    preview "$@"
+    ;;
+install) install_ox ;;
+uninstall) uninstall_ox ;;
+crates) alone crates ;;
 library)
     archive=$root/target/staticlib
     staticlib
     ;;
+dist) dist ;;
+browser) browser ;;
 area) area "$2" ;; # of the library, for `library` itself
 doc) doc ;;
 importer) importer ;;
@@ -411,7 +354,7 @@ record)
     compare record "${2:-$vectors}" "${2:-$samples}"
     ;;
 *)
-    sed -n '3,11s/^#   //p' "$0"
+    sed -n 's/^#   //p' "$0"
     exit 2
     ;;
 esac

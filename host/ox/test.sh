@@ -13,6 +13,9 @@ ln -s "$root/samples" "$work/samples"
 cd "$work" || exit 1
 tested=ox
 . "$here/../counted.sh"
+# pages are made at one time, and no list is always the same
+export SOURCE_DATE_EPOCH=1781431200
+unset OX_LOG
 
 ox() { $run "$programs/ox" "$@"; }
 
@@ -63,7 +66,7 @@ for text in samples/plans/*.adi; do counted "$text" planned "$text"; done
 
 # ---- large files, a pipe closed early, a full disk, a terminal
 
-$run "$programs/largest" "$work" || failed=$((failed + 1))
+$run "$programs/examples/largest" "$work" || failed=$((failed + 1))
 full() {
     ox preview full.adi --log full.list >full.txt && [ "$(wc -c <full.adi)" = 16777216 ] && [ "$(wc -l <full.txt)" = 65539 ] &&
         grep -qx '65535 records · 52428 to import · 13107 duplicates (skipped)' full.txt
@@ -138,36 +141,80 @@ any_list() {
 }
 counted 'a list cut anywhere' any_list
 
-# ---- the manual page and the completion
+# ---- the manual page and the completions
 
-# each option and fate that the help names
+for shell in bash zsh fish; do ox completions $shell >"completions.$shell"; done
+# each command, option and fate that the help names
 known() {
-    for command in preview list fresh rewrite; do ox $command --help; done | grep -o -e '--[a-z]\+' | sort -u
-    ox preview samples/club.adi --only none 2>&1 | sed -n 's/.*there are //p' | tr -d , | tr ' ' '\n'
+    for command in '' preview list 'list show' fresh rewrite completions; do
+        ox $command --help | tee help | grep -o -e '--[a-z]\+'
+        sed -n '/^Commands:/,/^$/s/^  \([a-z]*\) .*/\1/p' help
+        grep -o 'possible values: [^]]*' help | sed 's/.*: //' | tr -d , | tr ' ' '\n'
+    done | sort -u
 }
 documented() {
     known >names
     sed 's/\\-/-/g' "$here/ox.1" >page
-    [ "$(wc -l <names)" = 14 ] || return 1
+    [ "$(wc -l <names)" = 29 ] || { cat names; return 1; }
     while read -r name; do
-        for place in page "$here/ox.bash"; do
+        for place in page completions.bash completions.zsh; do
             grep -qw -e "$name" "$place" || { echo "$name is not in $place"; return 1; }
         done
     done <names
+    # those for fish have an option by its name alone, and no shells to choose
+    ox completions --help | grep -o 'possible values: [^]]*' | tr -d , | tr ' ' '\n' >shells
+    grep -vxFf shells names | sed 's/^--//' | while read -r name; do
+        grep -qw -e "$name" completions.fish || { echo "$name is not in completions.fish"; exit 1; }
+    done
 }
-counted 'what the help names is in the manual page and the completion' documented
-# completes WORDS CHOICES: the last word, of which nothing or its start stands there
+counted 'what the help names is in the manual page and the completions' documented
+# completes WORDS CHOICES: the last word, of which nothing or its start stands there; with no choice the shell itself completes files
 completes() {
-    told=$(cd "$root/samples/plans" && bash -c ". '$here/ox.bash'; COMP_WORDS=($1); COMP_CWORD=\$((\${#COMP_WORDS[@]} - 1)); _ox; echo \"\${COMPREPLY[*]}\"")
-    [ "$told" = "$2" ] || { echo "$1: $told"; return 1; }
+    told=$(bash -c ". ./completions.bash; COMP_WORDS=($1); COMP_CWORD=\$((\${#COMP_WORDS[@]} - 1)); _ox ox; echo \"\${COMPREPLY[*]}\"; complete -p ox" </dev/null)
+    [ "$told" = "$2
+complete -o bashdefault -o default -F _ox ox" ] || { echo "$1: $told"; return 1; }
 }
-counted 'a command completed' completes "ox ''" 'preview list fresh rewrite --help'
-counted 'a file completed' completes 'ox preview 01.a' '01.adi'
+counted 'a command completed' completes "ox ''" '-h -V --help --version preview list fresh rewrite completions'
+counted 'a file completed' completes 'ox preview 01.a' ''
+counted 'a second file completed' completes 'ox preview 01.adi 02.a' ''
 counted 'an option completed' completes 'ox preview 01.adi --wi' '--window'
 counted 'a fate completed' completes 'ox preview 01.adi --only un' 'unusable unmatched'
-counted 'a second fate completed' completes 'ox preview 01.adi --only unusable dup' 'duplicate-in-log duplicate-in-file'
+counted 'a second fate completed' completes 'ox preview 01.adi --only unusable --only dup' 'duplicate-in-log duplicate-in-file'
+touch 02.txt
 counted 'a list completed' completes 'ox preview 01.adi --log 02.t' '02.txt'
 counted 'show completed' completes 'ox list sh' 'show'
+
+# ---- installed: it runs from where it was put, and needs nothing of this checkout
+
+below=$work/root/usr/local
+installed() { (cd / && env -i PATH="/usr/bin:/bin${run:+:$(dirname "$run")}" "$below/bin/ox" "$@"); }
+places() {
+    (cd "$below" && find . -type f | LC_ALL=C sort) >places
+    { [ -z "$run" ] || echo ./libexec/oxbreathe/ox.x86_64; printf '%s\n' ./bin/ox ./share/bash-completion/completions/ox \
+        ./share/fish/vendor_completions.d/ox.fish ./share/man/man1/ox.1 ./share/zsh/site-functions/_ox; } | LC_ALL=C sort | cmp - places
+}
+alike() { installed preview "$root/samples/club.adi" >out && ox preview "$root/samples/club.adi" | cmp - out; }
+told_version() {
+    installed --version >out
+    { sed -n 's/^version = "\(.*\)"/ox \1/p' "$here/../Cargo.toml" && cat "$root/dist/BUILT"; } | cmp - out
+}
+alone() {
+    program=$below/bin/ox
+    [ -z "$run" ] || program=$below/libexec/oxbreathe/ox.x86_64
+    ! grep -aq -e "$root" -e "${OXBREATHE_CACHE:-$HOME/.cache/oxbreathe}" "$program"
+}
+# what it does meanwhile is at most three lines on standard error
+previews() {
+    make -s -C "$root" preview FILE=samples/club.adi >out 2>err && (cd "$root" && ox preview samples/club.adi) | cmp - out && [ "$(wc -l <err)" -le 3 ]
+}
+gone() { DESTDIR=$work/root PREFIX=/usr/local make -s -C "$root" uninstall && [ -z "$(find "$work/root" -type f)" ]; }
+counted 'installed' make -s -C "$root" install DESTDIR="$work/root" PREFIX=/usr/local
+counted 'everything where it belongs' places
+counted 'installed, it previews' alike
+counted 'installed, it tells its version' told_version
+counted 'no path of this checkout in it' alone
+counted 'uninstalled' gone
+counted 'make preview' previews
 
 echo "ox: $passed passed, $failed failed"
 [ "$failed" = 0 ]

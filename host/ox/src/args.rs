@@ -65,8 +65,7 @@ pub fn fates() -> impl Iterator<Item = Fate> {
 
 /// The command that the words are for; where there is none, or help was asked for, clap says so and the program ends.
 pub fn command(words: impl Iterator<Item = OsString>) -> Command {
-    let mut clap = clap();
-    let mut given = clap.get_matches_from_mut(spread(words));
+    let mut given = clap().try_get_matches_from(spread(words)).unwrap_or_else(|wrong| wrong.exit());
     let (name, mut given) = given.remove_subcommand().unwrap_or_default();
     let asked = match &*name {
         "preview" => preview(&mut given),
@@ -75,10 +74,7 @@ pub fn command(words: impl Iterator<Item = OsString>) -> Command {
         "rewrite" => Ok(Command::Rewrite { from: input(&mut given, "IN"), out: output(&mut given, "OUT") }),
         _ => Ok(Command::Completions(given.remove_one("SHELL").unwrap_or(Shell::Bash))),
     };
-    asked.unwrap_or_else(|(kind, what)| {
-        let of = clap.find_subcommand_mut(&name).map(|of| of.clone().bin_name(format!("ox {name}")));
-        of.unwrap_or(clap).error(kind, what).exit()
-    })
+    asked.unwrap_or_else(|Wrong { mut of, kind, what }| of.error(kind, what).exit())
 }
 
 /// Behind `--only` several fates may stand: each gets an `--only` of its own, so that a file may follow them.
@@ -115,12 +111,23 @@ fn output(given: &mut ArgMatches, name: &str) -> Out {
     Out { path: path(given, name).unwrap_or_default(), force: given.get_flag("force") }
 }
 
-type Wrong = (ErrorKind, String);
+/// What is wrong with the words of a command, where clap itself cannot tell.
+struct Wrong {
+    of: Clap,
+    kind: ErrorKind,
+    what: String,
+}
+
+impl Wrong {
+    fn new(name: &str, of: Clap, kind: ErrorKind, what: impl Into<String>) -> Wrong {
+        Wrong { of: of.bin_name(format!("ox {name}")), kind, what: what.into() }
+    }
+}
 
 /// Standard input can be read once.
-fn read_once<'a>(inputs: impl Iterator<Item = &'a In>) -> Result<(), Wrong> {
+fn read_once<'a>(name: &str, of: Clap, inputs: impl Iterator<Item = &'a In>) -> Result<(), Wrong> {
     if inputs.filter(|input| input.is_standard()).count() > 1 {
-        return Err((ErrorKind::ArgumentConflict, "standard input (-) can be read only once".to_string()));
+        return Err(Wrong::new(name, of, ErrorKind::ArgumentConflict, "standard input (-) can be read only once"));
     }
     Ok(())
 }
@@ -129,7 +136,8 @@ fn preview(given: &mut ArgMatches) -> Result<Command, Wrong> {
     let files: Vec<In> = given.remove_many::<PathBuf>("FILE").into_iter().flatten().map(In::named).collect();
     let form = match path(given, "html") {
         Some(_) if files.len() > 1 => {
-            return Err((ErrorKind::ArgumentConflict, "a page (--html) is of one file".to_string()));
+            let what = "a page (--html) is of one file";
+            return Err(Wrong::new("preview", preview_words(), ErrorKind::ArgumentConflict, what));
         }
         Some(path) => Form::Html(Out { path, force: given.get_flag("force") }),
         None if given.get_flag("json") => Form::Json,
@@ -141,20 +149,21 @@ fn preview(given: &mut ArgMatches) -> Result<Command, Wrong> {
         window: given.remove_one("window").unwrap_or_default(),
         download: given.get_flag("download"),
     };
-    read_once(files.iter().chain(&against.log))?;
+    read_once("preview", preview_words(), files.iter().chain(&against.log))?;
     let only = given.remove_many("only").into_iter().flatten().collect();
     Ok(Command::Preview(Preview { files, against, only, form }))
 }
 
 /// The list that is named, or else the one that is always the same.
-fn named_list(given: &mut ArgMatches) -> Result<In, Wrong> {
+fn named_list(name: &str, of: Clap, given: &mut ArgMatches) -> Result<In, Wrong> {
     let named = path(given, "LIST").or_else(list_of_always).map(In::named);
-    named.ok_or_else(|| (ErrorKind::MissingRequiredArgument, format!("no LIST, and {LOG} names none")))
+    let what = format!("no LIST, and {LOG} names none");
+    named.ok_or_else(|| Wrong::new(name, of, ErrorKind::MissingRequiredArgument, what))
 }
 
 fn list(given: &mut ArgMatches) -> Result<Command, Wrong> {
     match given.remove_subcommand() {
-        Some((_, mut given)) => Ok(Command::ListShow { list: named_list(&mut given)? }),
+        Some((_, mut given)) => Ok(Command::ListShow { list: named_list("list show", show_words(), &mut given)? }),
         None => Ok(Command::List { from: input(given, "FROM"), out: output(given, "OUT") }),
     }
 }
@@ -163,19 +172,30 @@ fn fresh(given: &mut ArgMatches) -> Result<Command, Wrong> {
     let asked = Fresh {
         plan: input(given, "PLAN"),
         files: given.remove_many::<PathBuf>("file").into_iter().flatten().map(In::named).collect(),
-        list: named_list(given)?,
+        list: named_list("fresh", fresh_words(), given)?,
         window: given.remove_one("window").unwrap_or_default(),
         download: given.get_flag("download"),
     };
-    read_once(asked.files.iter().chain([&asked.plan, &asked.list]))?;
+    read_once("fresh", fresh_words(), asked.files.iter().chain([&asked.plan, &asked.list]))?;
     Ok(Command::Fresh(asked))
 }
 
-/// The completions of a shell.
+/// The completions of a shell. Those for bash offer `<FILE>...` as a word to choose: it is left out, and files are completed in its place.
 pub fn completions(shell: Shell) -> String {
     let mut script = Vec::new();
     clap_complete::generate(shell, &mut clap(), "ox", &mut script);
-    String::from_utf8_lossy(&script).into_owned()
+    let script = String::from_utf8_lossy(&script).into_owned();
+    if shell != Shell::Bash {
+        return script;
+    }
+    let choices = |line: &str| {
+        let words = line.split(' ').filter(|word| !word.starts_with(['<', '[']));
+        words.collect::<Vec<_>>().join(" ").trim_end_matches('"').to_string() + "\""
+    };
+    let kept = |line: &str| {
+        if line.trim_start().starts_with("opts=\"-") { choices(line) } else { line.to_string() }
+    };
+    script.lines().map(|line| kept(line) + "\n").collect()
 }
 
 // ---- the words that are known
@@ -197,7 +217,7 @@ fn window() -> Arg {
     Arg::new("window")
         .long("window")
         .value_name("SECONDS")
-        .value_parser(value_parser!(i64))
+        .value_parser(|seconds: &str| seconds.parse::<i64>().map_err(|_| "no whole number of seconds"))
         .allow_negative_numbers(true)
         .default_value(WINDOW)
         .help(help)
@@ -244,7 +264,11 @@ fn preview_words() -> Clap {
                 .required(true)
                 .num_args(1..),
         )
-        .arg(option("log", "LIST", "The contacts that the log has (ox list makes one) [env: OX_LOG, else an empty log]"))
+        .arg(option(
+            "log",
+            "LIST",
+            "The contacts that the log has (ox list makes one) [env: OX_LOG, else an empty log]",
+        ))
         .arg(window())
         .arg(flag("download", "FILE is a download of confirmations: nothing of it is imported"))
         .arg(
@@ -262,14 +286,17 @@ fn preview_words() -> Clap {
         .arg(force().requires("html"))
 }
 
+fn show_words() -> Clap {
+    subcommand("show", "Prints a contact list", LIST_SHOW)
+        .arg(file("LIST", "The list; - is standard input [env: OX_LOG]"))
+}
+
 fn list_words() -> Clap {
-    let show = subcommand("show", "Prints a contact list", LIST_SHOW)
-        .arg(file("LIST", "The list; - is standard input [env: OX_LOG]"));
     subcommand("list", "Makes a contact list of a log, for preview's --log; ox list show prints one", LIST)
         .arg(file("FROM", "The log (ADIF); - is standard input").required(true))
         .arg(file("OUT", "The list to write").required(true))
         .arg(force())
-        .subcommand(show)
+        .subcommand(show_words())
         .disable_help_subcommand(true)
         .subcommand_negates_reqs(true)
         .args_conflicts_with_subcommands(true)
@@ -311,7 +338,7 @@ Examples:
   ox preview --summary samples/*.adi
   ox preview samples/fieldday.adi --log station.list --json >plan.json
   ox preview samples/lotw.adi --log station.list --download --html lotw.html
-  curl -s https://club.example/log.adi | ox preview -";
+  unzip -p club.zip | ox preview -";
 
 const LIST: &str = "\
 A contact's id is the number of its record. Records that are unusable are left out, and named. (A log of the name show is
@@ -361,10 +388,15 @@ mod tests {
             let words = super::spread(words.split(' ').map(OsString::from));
             words.iter().map(|word| word.to_string_lossy().into_owned()).collect::<Vec<_>>().join(" ")
         };
-        assert_eq!(spread("ox preview --only ignored unusable x.adi"), "ox preview --only ignored --only unusable x.adi");
+        assert_eq!(
+            spread("ox preview --only ignored unusable x.adi"),
+            "ox preview --only ignored --only unusable x.adi"
+        );
         assert_eq!(spread("ox preview ignored unusable"), "ox preview ignored unusable");
-        assert_eq!(spread("ox preview --only ignored confirmed unmatched"),
-            "ox preview --only ignored --only confirmed --only unmatched");
+        assert_eq!(
+            spread("ox preview --only ignored confirmed unmatched"),
+            "ox preview --only ignored --only confirmed --only unmatched"
+        );
         assert_eq!(spread("ox preview -- --only ignored confirmed"), "ox preview -- --only ignored confirmed");
     }
 }

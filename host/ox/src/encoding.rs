@@ -10,8 +10,8 @@ const DOS: &str = "ÇüéâäàåçêëèïîìÄÅÉæÆôöòûùÿÖÜø£Ø"
 
 /// Letters with marks, each before the plain letter that is nearest.
 const PLAIN: [&str; 16] = [
-    "ÀÁÂÃÄÅÆA", "àáâãäåæa", "ÇC", "çc", "ÈÉÊËE", "èéêëe", "ÌÍÎÏI", "ìíîïi", "ÑN", "ñn", "ÒÓÔÕÖØŒO", "òóôõöøœo", "ÙÚÛÜU",
-    "ùúûüu", "ÝŸYŠSŽZÐD", "ýÿyšsžzðdßs",
+    "ÀÁÂÃÄÅÆA", "àáâãäåæa", "ÇC", "çc", "ÈÉÊËE", "èéêëe", "ÌÍÎÏI", "ìíîïi", "ÑN", "ñn", "ÒÓÔÕÖØŒO", "òóôõöøœo",
+    "ÙÚÛÜU", "ùúûüu", "ÝŸYŠSŽZÐD", "ýÿyšsžzðdßs",
 ];
 
 /// What a byte would be, and where.
@@ -23,38 +23,41 @@ struct Guess {
 /// The advice for a file that is not UTF-8 from `at` on.
 pub fn advice(bytes: &[u8], at: usize) -> Vec<String> {
     if let [0xff, 0xfe, ..] | [0xfe, 0xff, ..] = bytes {
-        return vec![
-            "The file is in UTF-16, by its first two bytes.".to_string(),
-            format!("{AGAIN}."),
-        ];
+        return vec!["The file is in UTF-16, by its first two bytes.".to_string(), format!("{AGAIN}.")];
     }
     let rest = bytes.get(at..).unwrap_or_default();
     let is_cut = std::str::from_utf8(rest).is_err_and(|error| error.valid_up_to() == 0 && error.error_len().is_none());
     let Some((byte, guess)) = rest.first().map(|&byte| (byte, guess(bytes, at, byte))) else { return Vec::new() };
-    if is_cut && guess.as_ref().is_none_or(|guess| !is_letter(bytes.get(..at).and_then(|before| before.last()), guess)) {
+    if is_cut && guess.as_ref().is_none_or(|guess| !is_letter(bytes.get(..at).and_then(|before| before.last()), guess))
+    {
         return vec!["The file ends inside a character: it was cut off. Fetch it again.".to_string()];
     }
     let such = bytes.utf8_chunks().map(|chunk| chunk.invalid().len()).sum::<usize>();
-    let bytes_alike = if such == 1 { "no other byte is bad".to_string() } else { format!("{such} bytes of the file are bad") };
+    let bytes_alike =
+        if such == 1 { "no other byte is bad".to_string() } else { format!("{such} bytes of the file are bad") };
     let near = near(bytes, at);
     let Some(Guess { character, encoding }) = guess else {
-        return vec![format!("Byte {byte:02X}{near} is of no encoding that is known here; {bytes_alike}."), format!("{AGAIN}.")];
+        return vec![
+            format!("Byte {byte:02X}{near} is of no encoding that is known here; {bytes_alike}."),
+            format!("{AGAIN}."),
+        ];
     };
     let instead = plain(character);
     vec![
         format!("Byte {byte:02X}{near} is {character} in {encoding}, very likely; {bytes_alike}."),
         format!(
-            "Do not just save it as UTF-8: {character} has {} bytes there, so the length in its tag would be too short and the end of \
-             the value lost.",
+            "Do not just save it as UTF-8: {character} has {} bytes there, so its length would be too short and the end of the value lost.",
             character.len_utf8()
         ),
+        format!("{AGAIN}."),
         format!(
-            "{AGAIN}; or put one plain letter for each such byte ({instead} for {character}): every length then stays right."
+            "Or put one plain letter in the place of each such byte ({instead} for {character}): every length then stays right."
         ),
     ]
 }
 
-const AGAIN: &str = "Have the program that wrote it export it again, in UTF-8 or in plain ASCII, so that it counts the lengths anew";
+const AGAIN: &str =
+    "Have the program that wrote it export it again in UTF-8 or in plain ASCII, which counts the lengths anew";
 
 /// By the byte: from A0 on Windows-1252 and Latin-1 agree. Below, DOS has letters and Windows-1252 mostly signs: a letter between letters
 /// is the likelier.
@@ -120,15 +123,23 @@ mod tests {
             "Byte 89 behind Zo is \u{eb} in the DOS code page 850 or 437, very likely; 2 bytes of the file are bad."
         );
         assert_eq!(first(b"5 \x80 "), "Byte 80 is \u{20ac} in Windows-1252, very likely; no other byte is bad.");
-        assert_eq!(first(b"<A:3>\x9aek"), "Byte 9A before ek is \u{161} in Windows-1252, very likely; no other byte is bad.");
+        assert_eq!(
+            first(b"<A:3>\x9aek"),
+            "Byte 9A before ek is \u{161} in Windows-1252, very likely; no other byte is bad."
+        );
         assert_eq!(first(b"\xff\xfe<\0"), "The file is in UTF-16, by its first two bytes.");
         assert_eq!(first(b"<A:3> \xe2\x82"), "The file ends inside a character: it was cut off. Fetch it again.");
-        assert_eq!(first(b"x \x81"), "Byte 81 is \u{fc} in the DOS code page 850 or 437, very likely; no other byte is bad.");
+        assert_eq!(
+            first(b"x \x81"),
+            "Byte 81 is \u{fc} in the DOS code page 850 or 437, very likely; no other byte is bad."
+        );
     }
 
     #[test]
     fn one_for_one() {
-        for (character, letter) in [('\u{e9}', 'e'), ('\u{d8}', 'O'), ('\u{df}', 's'), ('\u{b0}', '?'), ('\u{178}', 'Y'), ('\u{fd}', 'y')] {
+        for (character, letter) in
+            [('\u{e9}', 'e'), ('\u{d8}', 'O'), ('\u{df}', 's'), ('\u{b0}', '?'), ('\u{178}', 'Y'), ('\u{fd}', 'y')]
+        {
             assert_eq!(super::plain(character), letter, "{character}");
         }
     }

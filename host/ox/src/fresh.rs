@@ -15,8 +15,8 @@ pub fn run(asked: &Fresh) -> Result<Said, Failure> {
         Failure::File(format!("{} {what}", asked.plan))
     })?;
     if !asked.files.is_empty() && asked.files.len() != bases.len() {
-        let (previews, files) = (bases.len(), asked.files.len());
-        return Err(Failure::File(format!("{} has {previews} previews, and --file names {files} files", asked.plan)));
+        let (previews, files) = (counted(bases.len(), "preview"), counted(asked.files.len(), "file"));
+        return Err(Failure::File(format!("{} has {previews}, and --file names {files}", asked.plan)));
     }
     let list = asked.list.read()?;
     let now = refused::of(&asked.list, &list, check(&list))?;
@@ -34,8 +34,18 @@ pub fn run(asked: &Fresh) -> Result<Said, Failure> {
     Ok(said)
 }
 
+fn counted(count: usize, what: &str) -> String {
+    format!("{count} {what}{}", if count == 1 { "" } else { "s" })
+}
+
 /// What of a preview is not the same any more, in words.
-fn differences(asked: &Fresh, basis: &Basis, list: &[u8], now: Mark, file: Option<&In>) -> Result<Vec<String>, Failure> {
+fn differences(
+    asked: &Fresh,
+    basis: &Basis,
+    list: &[u8],
+    now: Mark,
+    file: Option<&In>,
+) -> Result<Vec<String>, Failure> {
     let mut found = Vec::new();
     let then: Mark = basis.mark.into();
     // whether the list is known by the same mark is the library's to say
@@ -57,7 +67,11 @@ fn differences(asked: &Fresh, basis: &Basis, list: &[u8], now: Mark, file: Optio
         failure => failure,
     })?;
     if basis.file_sha256 != sha256(&bytes) {
-        found.push(format!("the file {file} was changed: its SHA-256 was {}, and is {}", basis.file_sha256, sha256(&bytes)));
+        found.push(format!(
+            "the file {file} was changed: its SHA-256 was {}, and is {}",
+            basis.file_sha256,
+            sha256(&bytes)
+        ));
     }
     if basis.window != asked.window {
         found.push(format!("previewed with a window of {} seconds; now {} (--window)", basis.window, asked.window));

@@ -105,7 +105,8 @@ mod tests {
 
     #[test]
     fn laid_out() {
-        let value = json!({"a": 1, "b": {"c": [1, 2], "d": {}}, "e": [{"f": [], "g": "x"}, {"f": [3]}], "h": [], "i": {}});
+        let value =
+            json!({"a": 1, "b": {"c": [1, 2], "d": {}}, "e": [{"f": [], "g": "x"}, {"f": [3]}], "h": [], "i": {}});
         let text = super::text(&value);
         let lines = [
             "{",

@@ -99,7 +99,7 @@ pub fn run(asked: &Preview, coloured: bool) -> Result<Said, Failure> {
     }
     drop(progress);
     match &asked.form {
-        Form::Json if several => said.out("]\n"),
+        Form::Json if several => said.out("\n]\n"),
         Form::Table | Form::Summary if several => said.out(of_files(asked, &log, &outcomes)),
         _ => (),
     }
@@ -119,7 +119,7 @@ fn one(asked: &Preview, log: &Log, file: &In, coloured: bool, said: &mut Said) -
             said.err(text);
             said.status(status);
             if let Form::Json = asked.form {
-                said.out("null\n");
+                said.out("null");
             }
             return Ok(Outcome::Unread);
         }
@@ -132,7 +132,7 @@ fn one(asked: &Preview, log: &Log, file: &In, coloured: bool, said: &mut Said) -
             said.err(refused.text());
             said.status(1);
             match &asked.form {
-                Form::Json => said.out(refused.json()),
+                Form::Json => said.out(element(refused.json(), several)),
                 Form::Html(out) => {
                     let basis = Basis::new(file, &bytes, log.against, &log.bytes, log.mark);
                     let page = refused.with_fault(|fault| with_origin(&basis, |origin| html::refused(origin, fault)));
@@ -150,7 +150,7 @@ fn one(asked: &Preview, log: &Log, file: &In, coloured: bool, said: &mut Said) -
         Form::Table => said.out(shown.text(asked, coloured) + &summary()),
         Form::Summary if !several => said.out(summary()),
         Form::Summary => (),
-        Form::Json => said.out(shown.json(basis())),
+        Form::Json => said.out(element(shown.json(basis()), several)),
         Form::Html(out) => {
             said.out(summary());
             write_page(out, &with_origin(&basis(), |origin| html::page(origin, &shown)), said)?;
@@ -160,6 +160,11 @@ fn one(asked: &Preview, log: &Log, file: &In, coloured: bool, said: &mut Said) -
         said.out(log.told());
     }
     Ok(Outcome::Planned { records: plan.fates.len(), counts: plan.counts })
+}
+
+/// JSON as it is printed: by itself it ends its line, of several a comma or a bracket does.
+fn element(json: String, several: bool) -> String {
+    if several { json.trim_end().to_string() } else { json }
 }
 
 fn write_page(out: &Out, page: &str, said: &mut Said) -> Result<(), Failure> {
@@ -242,10 +247,10 @@ impl Shown<'_> {
             let (fate, why) = (fate.name(), record.reason());
             saved::Record { number: *number, call, date, time, band, mode, fate, reason, why }
         }
-        let confirmation = |(confirmation, contact): &(Confirmation<'_>, Contact<'_>)| {
+        fn confirmation<'a>((confirmation, contact): &'a (Confirmation, Contact)) -> saved::Confirmation<'a> {
             let (service, date) = (confirmation.service.name(), confirmation.date);
             saved::Confirmation { id: confirmation.id, call: contact.call, service, date }
-        };
+        }
         json::text(&Saved {
             basis,
             counts: self.plan.counts.into(),
@@ -280,8 +285,9 @@ fn of_files(asked: &Preview, log: &Log, outcomes: &[Outcome]) -> String {
         }
         rows.push(row(named(file), numbers, why));
     }
-    let all = format!("{} files", outcomes.len());
-    rows.push(row(all, Some(sums), if refused > 0 { refused.to_string() } else { String::new() }));
+    let all = outcomes.len();
+    let refused = if refused > 0 { format!("{refused} of {all} files") } else { String::new() };
+    rows.push(row(format!("{all} files"), Some(sums), refused));
     let before = if let Form::Table = asked.form { "\n" } else { "" };
     let by_itself = "each file by itself: a contact that stands in two of them counts in both";
     format!("{before}{}{}{by_itself}\n", laid_out(&head, &[1, 2, 3, 4], &rows), log.told())

@@ -66,7 +66,17 @@ impl Drop for Progress {
 fn line(done: usize, files: usize, steps: usize, name: &str, seconds: u64) -> String {
     let filled = WIDTH * done / files.max(1);
     let mark = filled + steps % (WIDTH - filled).max(1);
-    let bar: String = (0..WIDTH).map(|at| if at < filled { '#' } else if at == mark { '>' } else { '.' }).collect();
+    let bar: String = (0..WIDTH)
+        .map(|at| {
+            if at < filled {
+                '#'
+            } else if at == mark {
+                '>'
+            } else {
+                '.'
+            }
+        })
+        .collect();
     let count = if files > 1 { format!("{done} of {files} files, ") } else { String::new() };
     format!("[{bar}] {count}{}, {seconds} s", table::cell(name))
 }

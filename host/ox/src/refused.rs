@@ -85,7 +85,9 @@ impl<'a> Refused<'a> {
     fn advice(&self) -> Vec<String> {
         let advice = match self.why.cause {
             Cause::TooLong => "Cut the file into smaller ones.",
-            Cause::NotUtf8 => return self.why.at().map(|at| encoding::advice(self.bytes, at.start)).unwrap_or_default(),
+            Cause::NotUtf8 => {
+                return self.why.at().map(|at| encoding::advice(self.bytes, at.start)).unwrap_or_default();
+            }
             Cause::UnterminatedTag => {
                 "The file may have been cut off: fetch it again, or end it behind the last <EOR>."
             }
@@ -160,9 +162,11 @@ impl<'a> Refused<'a> {
             number: self.why.number(),
             meaning: self.why.cause.name(),
             facts: &self.facts(spot.as_ref()),
-            excerpt: spot
-                .as_ref()
-                .map(|Spot { line, shown, meant, .. }| Excerpt { line: *line, shown, meant: meant.clone() }),
+            excerpt: spot.as_ref().map(|Spot { line, shown, meant, .. }| Excerpt {
+                line: *line,
+                shown,
+                meant: meant.clone(),
+            }),
             advice: &self.advice().join("\n"),
         })
     }

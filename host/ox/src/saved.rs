@@ -76,7 +76,8 @@ pub struct Counts {
 
 impl From<plan::Counts> for Counts {
     fn from(counts: plan::Counts) -> Counts {
-        let plan::Counts { total, importable, confirmations, already_confirmed, duplicates, unmatched, unusable } = counts;
+        let plan::Counts { total, importable, confirmations, already_confirmed, duplicates, unmatched, unusable } =
+            counts;
         Counts { total, importable, duplicates, confirmations, already_confirmed, unmatched, unusable }
     }
 }

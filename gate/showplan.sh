@@ -1,14 +1,12 @@
 #!/bin/sh
-# What importing a file would do, with nothing imported: host/preview.sh FILE
-# The first time it proves and builds `showplan`, which takes a while; what that says goes to standard error. The program is for x86-64
-# and runs as `rt` runs it: under the kit's loader and C library, on another machine through the kit's emulator.
+# The program `showplan` on a text: gate/showplan.sh FILE. It is for x86-64 and runs as `rt` runs it: under the kit's loader and C library, on
+# another machine through the kit's emulator. Where it was not proved yet, that comes first.
 set -u
 die() {
-    echo "preview: $*" >&2
+    echo "showplan: $*" >&2
     exit 2
 }
-[ $# -eq 1 ] && [ -n "$1" ] || die "usage: make preview FILE=log.adi"
-[ -f "$1" ] && [ -r "$1" ] || die "cannot read $1"
+[ $# -eq 1 ] && [ -f "$1" ] && [ -r "$1" ] || die "usage: gate/showplan.sh FILE"
 root=$(cd "$(dirname "$0")/.." && pwd -P)
 program=$root/target/bin/showplan
 
@@ -20,7 +18,6 @@ tools=$kit/on/$(uname -m)/toolchain
 
 # a stamp stands where the program was proved and ran as it must
 if [ ! -x "$program" ] || [ ! -f "$root/target/stamp/showplan" ]; then
-    echo 'preview: proving and building showplan, once' >&2
     (cd "$root" && rt check showplan) >&2 || die 'showplan was not proved'
 fi
 emulator=$tools/bin/qemu-x86_64
