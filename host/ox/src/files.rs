@@ -77,6 +77,9 @@ pub struct Out {
 impl Out {
     /// Whether it may be written, asked before any work is done. What is read is never overwritten.
     pub fn check(&self, read: &[&In]) -> Result<(), Failure> {
+        if self.path.as_os_str() == "-" {
+            return Err(Failure::File("- is no output: an output is a file, written whole".to_string()));
+        }
         if read.iter().any(|input| input.is_file(&self.path)) {
             return Err(Failure::File(format!("{} is read, and cannot be the output", self.path.display())));
         }
