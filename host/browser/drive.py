@@ -4,9 +4,15 @@ and photographed as a person would do it. What the browser tells meanwhile (erro
 import base64
 import json
 import os
+import select
 import subprocess
+import sys
 import tempfile
 import time
+
+
+# seconds without a word from the browser
+PATIENCE = 120
 
 
 class Browser:
@@ -29,7 +35,7 @@ class Browser:
         )
         os.close(asked)
         os.close(answering)
-        self.number, self.buffer, self.session, self.events = 0, b"", None, []
+        self.number, self.buffer, self.session, self.events, self.running = 0, b"", None, [], True
         targets = self.call("Target.getTargets")["targetInfos"]
         target = next(target["targetId"] for target in targets if target["type"] == "page")
         self.session = self.call("Target.attachToTarget", targetId=target, flatten=True)["sessionId"]
@@ -40,13 +46,16 @@ class Browser:
         try:
             self.session = None
             self.call("Browser.close")
-        except (OSError, EOFError):
-            pass
-        self.process.wait(20)
+            self.process.wait(20)
+        except (OSError, EOFError, subprocess.TimeoutExpired):
+            self.process.kill()
+            self.process.wait()
         self.folder.cleanup()
 
     def message(self):
         while b"\0" not in self.buffer:
+            if not select.select([self.answered], [], [], PATIENCE)[0]:
+                raise TimeoutError("the browser does not answer")
             part = os.read(self.answered, 1 << 20)
             if not part:
                 raise EOFError("the browser is gone")
@@ -92,6 +101,7 @@ class Browser:
 
     def scripts(self, run):
         self.call("Emulation.setScriptExecutionDisabled", value=not run)
+        self.running = run
 
     def open(self, path):
         """Opens a file; answers in milliseconds how long it took until the page was there and the browser at rest."""
@@ -103,8 +113,9 @@ class Browser:
         return 1000 * (time.monotonic() - start)
 
     def rest(self):
-        """Until two frames were drawn and nothing else is to be done; where no script runs, the next answer waits for the layout by itself."""
-        self.ask("new Promise(done => requestAnimationFrame(() => requestAnimationFrame(() => requestIdleCallback(done))))")
+        """Until two frames were drawn and nothing else is to be done; where no script runs, the next question waits for the layout by itself."""
+        if self.running:
+            self.ask("new Promise(done => requestAnimationFrame(() => requestAnimationFrame(() => requestIdleCallback(done))))")
 
     def ask(self, expression):
         """The value of an expression in the page; the debugger's own run where the page's are forbidden."""
@@ -128,7 +139,23 @@ class Browser:
             self.call("Input.dispatchKeyEvent", type="keyDown", key=letter, text=letter)
             self.call("Input.dispatchKeyEvent", type="keyUp", key=letter)
 
-    def picture(self, path, whole=False):
-        data = self.call("Page.captureScreenshot", format="png", captureBeyondViewport=whole)["data"]
+    def picture(self, path):
+        data = self.call("Page.captureScreenshot", format="png")["data"]
         with open(path, "wb") as file:
             file.write(base64.b64decode(data))
+
+    def paper(self):
+        """What a printer would get, as a PDF."""
+        return base64.b64decode(self.call("Page.printToPDF", printBackground=True)["data"])
+
+
+if __name__ == "__main__":
+    # a picture of a page: drive.py CHROMIUM PAGE WIDTH HEIGHT OUT
+    chromium, page, width, height, out = sys.argv[1:]
+    browser = Browser([chromium])
+    try:
+        browser.size(int(width), int(height))
+        browser.open(page)
+        browser.picture(out)
+    finally:
+        browser.close()

@@ -117,7 +117,8 @@ fn bar(counts: &[(&str, usize)]) -> String {
     format!("<ul id=\"bar\" aria-label=\"Records by fate\">\n{}</ul>\n", counts.iter().map(part).collect::<String>())
 }
 
-/// A table. The roles are those that it has by itself: where the style lays it out as cards, some browsers forget them.
+/// A table. Where a script runs, what `noscript` holds is a text to the browser, and no table of some 100,000 cells. The roles are those that it
+/// has by itself: where the style lays it out as cards, some browsers forget them.
 fn tabled(id: &str, caption: &str, heads: [&str; 8], rows: &str) -> String {
     let head = |name: &&str| {
         let order = match *name {
@@ -128,8 +129,8 @@ fn tabled(id: &str, caption: &str, heads: [&str; 8], rows: &str) -> String {
         format!("<th scope=\"col\" role=\"columnheader\"{order}><span>{name}</span></th>")
     };
     format!(
-        "<table id=\"{id}\" role=\"table\">\n<caption>{caption}</caption>\n<thead role=\"rowgroup\"><tr role=\"row\">{}</tr></thead>\n\
-         <tbody role=\"rowgroup\">\n{rows}</tbody>\n</table>\n",
+        "<section>\n<noscript class=\"{id}\">\n<table id=\"{id}\" role=\"table\">\n<caption>{caption}</caption>\n\
+         <thead role=\"rowgroup\"><tr role=\"row\">{}</tr></thead>\n<tbody role=\"rowgroup\">\n{rows}</tbody>\n</table>\n</noscript>\n</section>\n",
         heads.iter().map(head).collect::<String>()
     )
 }
@@ -226,6 +227,5 @@ fn foot(origin: &Origin) -> String {
 
 const STYLE: &str = include_str!("page.css");
 const SCRIPT: &str = include_str!("page.js");
-/// Before the rows are read: they are not all laid out where the script will page them. Where it fails, they are.
-const EARLY: &str =
-    "document.documentElement.className = 'scripted'; onerror = () => { document.documentElement.className = ''; };";
+/// Where the script fails, the tables are shown as they would be without it.
+const EARLY: &str = "onerror = () => { for (const held of document.querySelectorAll('noscript')) held.parentNode.innerHTML = held.textContent; };";

@@ -1,5 +1,5 @@
-// Sorts, filters and pages the tables. All rows stand in the page, to be read and printed without this script; with it some hundred are laid
-// out at a time, so that 20,000 are as quick as 20. Texts are read once, cell by cell, and never put back as markup.
+// Sorts, filters and pages the tables. All rows stand in the page, to be read and printed where no script runs; where one does, the browser
+// hands it their lines as a text, and some hundred at a time become rows: so 20,000 are as quick as 20.
 'use strict';
 
 const PAGE = 200;
@@ -25,15 +25,24 @@ const ORDERS = {
   band: (a, b) => metres(a) - metres(b) || plain(a, b),
 };
 
-// One table with its box, its line of status and its pages; `named` is what its rows are.
-function live(table, named) {
-  const heads = [...table.tHead.rows[0].cells];
-  const body = made('tbody', { class: 'paged', role: 'rowgroup' });
+const MARKS = { amp: '&', lt: '<', gt: '>', quot: '"' };
+
+// A line of the table as it is filtered and sorted: its cells in small letters. A text stands behind every second tag.
+function read(line) {
+  const cells = line.toLowerCase().split(/<[^>]*>/).filter((text, place) => place > 1 && place % 2 === 0);
+  if (line.includes('&')) cells.forEach((text, place) => { cells[place] = text.replace(/&([a-z]+);/g, (mark, name) => MARKS[name]); });
+  cells.pop(); // behind the last tag
   // words of the box have no line break in them, and cells neither: a text with one between the cells holds a word only where a cell does
-  const rows = Array.from(table.tBodies[0].rows, element => {
-    const cells = Array.from(element.children, cell => cell.textContent.toLowerCase());
-    return { element, fate: element.className, cells, text: cells.join('\n'), ranks: [] };
-  });
+  return { line, fate: line.split('"', 2)[1], cells, text: cells.join('\n'), ranks: [] };
+}
+
+// The table that a `noscript` holds, with its box, its line of status and its pages; `named` is what its rows are.
+function live(held, named) {
+  const lines = held.textContent.split('\n');
+  const isRow = line => line.startsWith('<tr class=');
+  held.insertAdjacentHTML('afterend', lines.filter(line => !isRow(line)).join('\n'));
+  const table = held.nextElementSibling, body = table.tBodies[0], heads = [...table.tHead.rows[0].cells];
+  const rows = lines.filter(isRow).map(read);
   const off = new Set();
   let shown = rows, first = 0, sorted = 0, down = false;
 
@@ -51,14 +60,12 @@ function live(table, named) {
 
   // roles are what a table laid out as cards loses in some browsers, places what a screen reader cannot count in one page
   function lay(part, before) {
-    const all = new DocumentFragment();
-    part.forEach(({ element }, place) => {
-      element.setAttribute('role', 'row');
-      element.setAttribute('aria-rowindex', before + place + 2);
-      for (const cell of element.children) cell.setAttribute('role', cell.localName === 'th' ? 'rowheader' : 'cell');
-      all.append(element);
+    body.innerHTML = part.map(row => row.line).join('');
+    [...body.rows].forEach((row, place) => {
+      row.setAttribute('role', 'row');
+      row.setAttribute('aria-rowindex', before + place + 2);
+      for (const cell of row.children) cell.setAttribute('role', cell.localName === 'th' ? 'rowheader' : 'cell');
     });
-    body.replaceChildren(all);
     table.setAttribute('aria-rowcount', shown.length + 1);
   }
   function tell(inView) {
@@ -117,8 +124,8 @@ function live(table, named) {
   });
   addEventListener('afterprint', () => show(first));
 
+  table.classList.add('live');
   tellOrder();
-  table.tBodies[0].replaceWith(body);
   table.before(made('div', { class: 'controls', role: 'search' }, label, box, status));
   table.after(pages);
   show(0);
@@ -133,7 +140,7 @@ function live(table, named) {
   };
 }
 
-const records = live(document.getElementById('records'), 'records');
+const [records] = Array.from(document.querySelectorAll('noscript'), held => live(held, held.className));
 for (const part of document.querySelectorAll('#bar li')) {
   const fate = part.className;
   if (!records.has(fate)) continue;
@@ -141,5 +148,3 @@ for (const part of document.querySelectorAll('#bar li')) {
   button.addEventListener('click', () => button.setAttribute('aria-pressed', records.toggle(fate)));
   part.replaceChildren(button);
 }
-const confirmations = document.getElementById('confirmations');
-if (confirmations) live(confirmations, 'confirmations');
