@@ -1,146 +1,231 @@
-//! The preview as one page: no script is needed to read it, one sorts and filters it.
+//! The preview as one page, and a page of a refused file to be sent to the club: no script is needed to read or print them; one sorts, filters
+//! and pages the tables.
 
-use crate::args::fates;
 use crate::preview::{Record, Shown};
+use crate::{list, table};
 use oxbreathe::contacts::Contact;
 use oxbreathe::plan::{Confirmation, Fate};
+use std::collections::BTreeMap;
+use std::ops::Range;
 
-/// A text as it stands in a page.
+/// What a page is made of and by: told at its foot, so that a preview can be held against its file and its list.
+pub struct Origin<'a> {
+    /// The file's name, as it was given.
+    pub file: &'a str,
+    /// In 64 hexadecimal digits.
+    pub file_sha256: &'a str,
+    /// The list's name and its SHA-256; none is an empty log.
+    pub log: Option<(&'a str, &'a str)>,
+    pub download: bool,
+    pub window: i64,
+    pub made: &'a str,
+    /// The tool and its version.
+    pub by: &'a str,
+}
+
+/// Of a refused file: what is wrong with it, where, and what to do.
+pub struct Fault<'a> {
+    pub number: u32,
+    pub meaning: &'a str,
+    /// The field, the place and the lengths, as far as they are known; or empty.
+    pub facts: &'a str,
+    pub excerpt: Option<Excerpt<'a>>,
+    /// One paragraph a line; or empty.
+    pub advice: &'a str,
+}
+
+/// The line of a file that it is refused for.
+pub struct Excerpt<'a> {
+    pub line: usize,
+    pub shown: &'a str,
+    /// What of it is meant, in characters.
+    pub meant: Range<usize>,
+}
+
+/// A text as it stands in a page: on one line, and never as markup.
 fn escaped(text: &str) -> String {
     let mut out = String::with_capacity(text.len());
-    for c in text.chars() {
+    for c in table::plain(text).chars() {
         match c {
             '&' => out += "&amp;",
             '<' => out += "&lt;",
             '>' => out += "&gt;",
             '"' => out += "&quot;",
-            c if c.is_control() => out.push('\u{fffd}'),
             c => out.push(c),
         }
     }
     out
 }
 
-fn cells(texts: &[&str]) -> String {
-    texts.iter().map(|text| format!("<td>{}</td>", escaped(text))).collect()
+/// A name inside a sentence: what is written from right to left in it stays in it.
+fn isolated(name: &str) -> String {
+    format!("<bdi>{}</bdi>", escaped(name))
 }
 
-fn head(names: &[&str]) -> String {
-    let names: String = names.iter().map(|name| format!("<th>{name}</th>")).collect();
-    format!("<thead><tr>{names}</tr></thead>")
-}
-
-pub fn page(shown: &Shown) -> String {
-    let file = escaped(&shown.asked.file.to_string_lossy());
-    let kind = if shown.asked.download { "download of confirmations" } else { "import" };
-    let mut page = format!(
-        "<!DOCTYPE html>\n<html lang=\"en\">\n<head>\n<meta charset=\"utf-8\">\n\
-         <meta name=\"viewport\" content=\"width=device-width\">\n<title>Preview of {file}</title>\n\
-         <style>\n{STYLE}</style>\n</head>\n<body>\n<h1>Preview of {file}</h1>\n\
-         <p class=\"summary\">{}</p>\n<p>A preview of the {kind}, {}; window {} seconds. Nothing was changed.</p>\n",
+pub fn page(origin: &Origin, shown: &Shown) -> String {
+    let name = escaped(origin.file);
+    let kind = if origin.download { "download of confirmations" } else { "import" };
+    let log = origin.log.map_or("an empty log".to_string(), |(name, _)| isolated(name));
+    let mut body = format!(
+        "<h1>Preview of {name}</h1>\n<p class=\"summary\">{}</p>\n\
+         <p>A preview of the {kind}, against {log}: {}; window {} seconds. Nothing was changed.</p>\n",
         escaped(&shown.plan.summary()),
-        escaped(&shown.log()),
-        shown.asked.window,
+        list::marked(shown.plan.mark),
+        origin.window,
     );
-    page += &bar(shown);
-    let rows: String = shown.records.iter().map(row).collect();
-    page += &format!(
-        "<table id=\"records\">\n{}\n<tbody>\n{rows}</tbody>\n</table>\n",
-        head(&["No", "Call", "Date", "Time", "Band", "Mode", "Fate", "Reason"])
+    let counts = counted(shown.plan.fates.iter().copied());
+    body += &bar(&counts);
+    let (records, all) = (shown.records.len(), shown.plan.fates.len());
+    if records < all {
+        let counts = counted(shown.records.iter().map(|record| record.fate));
+        let names: Vec<_> = counts.iter().map(|(name, _)| *name).collect();
+        let names = if names.is_empty() { String::new() } else { format!(": {}", names.join(", ")) };
+        body += &format!("<p>{records} of {all} records{names}</p>\n");
+    }
+    body += &tabled(
+        "records",
+        &format!("Records of {name} and what would become of each"),
+        ["No", "Call", "Date", "Time", "Band", "Mode", "Fate", "Reason"],
+        &shown.records.iter().map(record).collect::<String>(),
     );
     if !shown.confirmations.is_empty() {
-        let rows: String = shown.confirmations.iter().map(confirmation).collect();
-        page += &format!(
-            "<h2>Newly confirmed</h2>\n<table>\n{}\n<tbody>\n{rows}</tbody>\n</table>\n",
-            head(&["Id", "Call", "Date", "Time", "Band", "Mode", "By", "On"])
+        body += "<h2>Newly confirmed</h2>\n";
+        body += &tabled(
+            "confirmations",
+            "Contacts of the log that are newly confirmed",
+            ["Id", "Call", "Date", "Time", "Band", "Mode", "By", "On"],
+            &shown.confirmations.iter().map(confirmation).collect::<String>(),
         );
     }
-    page + &format!("<script>\n{SCRIPT}</script>\n</body>\n</html>\n")
+    let width = |(name, count): &(&str, usize)| format!("#bar .{name} {{ flex-grow: {count}; }}\n");
+    document(origin, &format!("Preview of {name}"), &counts.iter().map(width).collect::<String>(), &body, Some(SCRIPT))
 }
 
-/// How many records of the file have each fate, as one bar; each part is a label of its fate, and with the script a switch.
-fn bar(shown: &Shown) -> String {
-    let mut parts = String::new();
-    for name in fates().map(Fate::name) {
-        let count = shown.plan.fates.iter().filter(|fate| fate.name() == name).count();
-        if count > 0 {
-            parts += &format!(
-                "<div class=\"{name}\" data-fate=\"{name}\" style=\"flex:{count} 1 0\"><b>{count}</b> {name}</div>\n"
-            );
-        }
+/// Each fate that occurs and how often, in the order of the library's numbers; the reason does not matter here.
+fn counted(fates: impl Iterator<Item = Fate>) -> Vec<(&'static str, usize)> {
+    let mut counts = BTreeMap::new();
+    for fate in fates {
+        counts.entry(fate.number()).or_insert((fate.name(), 0)).1 += 1;
     }
-    format!("<div id=\"bar\">\n{parts}</div>\n")
+    counts.into_values().collect()
 }
 
-fn row(record: &Record) -> String {
+/// The counts as one bar; each part is a label of its fate, and with the script a switch.
+fn bar(counts: &[(&str, usize)]) -> String {
+    let part =
+        |(name, count): &(&str, usize)| format!("<li class=\"{name}\"><span><b>{count}</b> {name}</span></li>\n");
+    format!("<ul id=\"bar\" aria-label=\"Records by fate\">\n{}</ul>\n", counts.iter().map(part).collect::<String>())
+}
+
+/// A table. Where a script runs, what `noscript` holds is a text to the browser, and no table of some 100,000 cells. The roles are those that it
+/// has by itself: where the style lays it out as cards, some browsers forget them.
+fn tabled(id: &str, caption: &str, heads: [&str; 8], rows: &str) -> String {
+    let head = |name: &&str| {
+        let order = match *name {
+            "No" | "Id" => " data-order=\"number\"",
+            "Band" => " data-order=\"band\"",
+            _ => "",
+        };
+        format!("<th scope=\"col\" role=\"columnheader\"{order}><span>{name}</span></th>")
+    };
+    format!(
+        "<section>\n<noscript class=\"{id}\">\n<table id=\"{id}\" role=\"table\">\n<caption>{caption}</caption>\n\
+         <thead role=\"rowgroup\"><tr role=\"row\">{}</tr></thead>\n<tbody role=\"rowgroup\">\n{rows}</tbody>\n</table>\n</noscript>\n</section>\n",
+        heads.iter().map(head).collect::<String>()
+    )
+}
+
+/// A call of more characters than this is none, and may be broken.
+const LONGEST_CALL: usize = 16;
+
+/// A row of a table: a number, a call, which heads the row, and what else there is.
+fn row(class: &str, number: &str, call: &str, rest: [&str; 6]) -> String {
+    let long = if call.chars().count() > LONGEST_CALL { " class=\"long\"" } else { "" };
+    let rest: String = rest.iter().map(|text| format!("<td>{}</td>", escaped(text))).collect();
+    format!("<tr class=\"{class}\"><td>{number}</td><th scope=\"row\"{long}>{}</th>{rest}</tr>\n", escaped(call))
+}
+
+fn record(record: &Record) -> String {
     let Record { number, call, date, time, band, mode, fate } = record;
-    let fate = fate.name();
-    let cells = cells(&[&number.to_string(), call, date, time, band, mode, fate, record.reason()]);
-    format!("<tr class=\"{fate}\">{cells}</tr>\n")
+    row(fate.name(), &number.to_string(), call, [date, time, band, mode, fate.name(), record.reason()])
 }
 
 fn confirmation((confirmation, contact): &(Confirmation, Contact)) -> String {
     let Contact { call, date, time, band, mode, .. } = contact;
-    let (id, by) = (confirmation.id.to_string(), confirmation.service.name());
-    let cells = cells(&[&id, call, date, time, band, mode, by, confirmation.date.unwrap_or_default()]);
-    format!("<tr class=\"confirmed\">{cells}</tr>\n")
+    let on = confirmation.date.unwrap_or_default();
+    row("confirmed", &confirmation.id.to_string(), call, [date, time, band, mode, confirmation.service.name(), on])
 }
 
-const STYLE: &str = "\
-body { font: 15px/1.4 system-ui, sans-serif; color: #1c1c1c; background: #fff; max-width: 60rem; margin: 2rem auto; padding: 0 1rem; }
-h1 { font-size: 1.4rem; margin: 0; } h2 { font-size: 1.1rem; margin: 2rem 0 .5rem; }
-.summary { font-size: 1.1rem; font-weight: 600; margin: .3rem 0; }
-#bar { display: flex; flex-wrap: wrap; gap: 2px; margin: 1rem 0; }
-#bar div { padding: .4rem .6rem; min-width: max-content; border-radius: 3px; }
-#bar div.off { opacity: .3; text-decoration: line-through; }
-#filter { font: inherit; padding: .3rem .5rem; width: 16rem; margin-bottom: .5rem; }
-table { border-collapse: collapse; width: 100%; font-variant-numeric: tabular-nums; }
-th { text-align: left; border-bottom: 2px solid #555; padding: .25rem .5rem; }
-.live { cursor: pointer; }
-th.up::after { content: ' \\25b2'; } th.down::after { content: ' \\25bc'; }
-td { padding: .2rem .5rem; border-bottom: 1px solid #fff; overflow-wrap: anywhere; } td:first-child, th:first-child { text-align: right; }
-.importable { background: #d8f0d8; } .duplicate-in-log { background: #ffe9b3; } .duplicate-in-file { background: #fff3cf; }
-.unusable { background: #f8d0d0; } .confirmed { background: #cfe8f7; } .unmatched { background: #e8d8f2; } .ignored { background: #e6e6e6; }
-@media print { body { margin: 0; max-width: none; font-size: 11px; } #filter { display: none; } thead { display: table-header-group; }
-  tr { break-inside: avoid; } * { -webkit-print-color-adjust: exact; print-color-adjust: exact; } }
-";
+pub fn refused(origin: &Origin, fault: &Fault) -> String {
+    let name = escaped(origin.file);
+    let mut body = format!(
+        "<h1>Refused: {name}</h1>\n<p class=\"summary\">Refused {}: {}</p>\n\
+         <p>The file cannot be read as it is. Nothing of it was imported, and nothing was changed.</p>\n",
+        fault.number,
+        escaped(fault.meaning),
+    );
+    if !fault.facts.is_empty() || fault.excerpt.is_some() {
+        body += "<h2>Where</h2>\n";
+    }
+    if !fault.facts.is_empty() {
+        body += &format!("<p>{}</p>\n", escaped(fault.facts));
+    }
+    if let Some(excerpt) = &fault.excerpt {
+        body += &excerpted(excerpt);
+    }
+    if !fault.advice.is_empty() {
+        let lines: String =
+            fault.advice.lines().map(|line| format!("<p class=\"advice\">{}</p>\n", escaped(line))).collect();
+        body += &format!("<h2>What to do</h2>\n{lines}");
+    }
+    document(origin, &format!("Refused: {name}"), "", &body, None)
+}
 
-/// A head that is clicked sorts by its column, numbers as numbers; a part of the bar shows or hides its fate; the box keeps the rows that
-/// hold its words.
-const SCRIPT: &str = "\
-'use strict';
-const table = document.getElementById('records'), body = table.tBodies[0], rows = [...body.rows], off = new Set();
-const box = document.createElement('input');
-box.id = 'filter'; box.type = 'search'; box.placeholder = 'Filter: call, band, mode\\u2026';
-table.before(box);
-function filter() {
-  const words = box.value.toLowerCase().split(/\\s+/).filter(Boolean);
-  for (const row of rows) {
-    const text = row.textContent.toLowerCase();
-    row.hidden = off.has(row.className) || !words.every(word => text.includes(word));
-  }
+/// The line with the place marked; a place behind its end is a blank.
+fn excerpted(excerpt: &Excerpt) -> String {
+    let Excerpt { line, shown, meant } = excerpt;
+    let part = |from: usize, to: usize| escaped(&shown.chars().take(to).skip(from).collect::<String>());
+    let marked = part(meant.start, meant.end);
+    format!(
+        "<figure>\n<figcaption>Line {line} of the file, the place marked:</figcaption>\n<pre>{}<mark>{}</mark>{}</pre>\n</figure>\n",
+        part(0, meant.start),
+        if marked.is_empty() { "\u{a0}" } else { &marked },
+        part(meant.end, usize::MAX),
+    )
 }
-box.addEventListener('input', filter);
-function live(element, act) {
-  element.classList.add('live');
-  element.tabIndex = 0;
-  element.addEventListener('click', act);
-  element.addEventListener('keydown', event => { if (event.key === 'Enter') act(); });
+
+/// A whole page. The browser takes no style and runs no script but those that bear the SHA-256 of the file, which no text in that file can
+/// hold; and it fetches nothing.
+fn document(origin: &Origin, title: &str, style: &str, body: &str, script: Option<&str>) -> String {
+    let key = escaped(origin.file_sha256);
+    let scripts = if script.is_some() { format!(" script-src 'nonce-{key}';") } else { String::new() };
+    let early = script.map_or(String::new(), |_| format!("<script nonce=\"{key}\">{EARLY}</script>\n"));
+    let late = script.map_or(String::new(), |script| format!("<script nonce=\"{key}\">\n{script}</script>\n"));
+    format!(
+        "<!DOCTYPE html>\n<html lang=\"en\">\n<head>\n<meta charset=\"utf-8\">\n\
+         <meta http-equiv=\"Content-Security-Policy\" content=\"default-src 'none'; style-src 'nonce-{key}';{scripts} base-uri 'none'; form-action 'none'\">\n\
+         <meta name=\"viewport\" content=\"width=device-width, initial-scale=1\">\n<title>{title}</title>\n\
+         <style nonce=\"{key}\">\n{STYLE}{style}</style>\n{early}</head>\n<body>\n<main>\n{body}</main>\n{}{late}</body>\n</html>\n",
+        foot(origin),
+    )
 }
-for (const part of document.getElementById('bar').children) live(part, () => {
-  const fate = part.dataset.fate;
-  if (!off.delete(fate)) off.add(fate);
-  part.classList.toggle('off', off.has(fate));
-  filter();
-});
-[...table.tHead.rows[0].cells].forEach((head, column) => {
-  live(head, () => {
-    const down = head.classList.contains('up');
-    for (const other of table.tHead.rows[0].cells) other.classList.remove('up', 'down');
-    head.classList.add(down ? 'down' : 'up');
-    const text = row => row.cells[column].textContent;
-    rows.sort((a, b) => (down ? -1 : 1) * text(a).localeCompare(text(b), 'en', { numeric: column === 0 }));
-    body.append(...rows);
-  });
-});
-";
+
+/// What the page was made of, when and by what.
+fn foot(origin: &Origin) -> String {
+    let told = |what: &str, name: &str, sha256: &str| {
+        let (name, sha256) = (isolated(name), escaped(sha256));
+        format!("<dt>{what}</dt><dd>{name}<br>SHA-256 <code>{sha256}</code></dd>\n")
+    };
+    format!(
+        "<footer>\n<dl>\n{}{}<dt>Made</dt><dd>{}</dd>\n<dt>By</dt><dd>{}</dd>\n</dl>\n</footer>\n",
+        told("File", origin.file, origin.file_sha256),
+        origin.log.map_or(String::new(), |(name, sha256)| told("List", name, sha256)),
+        escaped(origin.made),
+        escaped(origin.by),
+    )
+}
+
+const STYLE: &str = include_str!("page.css");
+const SCRIPT: &str = include_str!("page.js");
+/// Where the script fails, the tables are shown as they would be without it.
+const EARLY: &str = "onerror = () => { for (const held of document.querySelectorAll('noscript')) held.parentNode.innerHTML = held.textContent; };";
