@@ -308,8 +308,12 @@ browser() {
     library
     built_ox "$archive"
     . "$host/browser/chromium.sh"
+    alone browser_ready || {
+        echo 'browser: not run: no chromium that could be fetched and run'
+        return 0
+    }
     # shellcheck disable=SC2086
-    alone browser_ready && "$host/browser/test.sh" "$out/browser" $run "$program"
+    "$host/browser/test.sh" "$chromium" $run "$program"
 }
 # linked NAME OPTION.. FILE..: a program of C, in $to
 # shellcheck disable=SC2086

@@ -9,18 +9,9 @@ browser_ready() {
         return 1
     }
     unpacked=$cache/chromium
-    if [ ! -f "$unpacked.ok" ]; then
-        # in a shell of its own, since what cannot be fetched ends the shell that asks for it
-        (
-            apt_ready chromium
-            # shellcheck disable=SC2046
-            unpack "$unpacked" fonts-dejavu-core $(lacking chromium)
-        ) || return 1
-        browser_fonts >"$unpacked/fonts.conf"
-        touch "$unpacked.ok"
-    fi
-    program=$unpacked/usr/lib/chromium/chromium
-    [ -x "$program" ] || program=$(command -v chromium) || {
+    [ -f "$unpacked.ok" ] || going "fetching a browser from Debian's packages" fetch_chromium || return 1
+    real=$unpacked/usr/lib/chromium/chromium
+    [ -x "$real" ] || real=$(command -v chromium) || {
         say 'no chromium, neither on the machine nor in what was fetched' >&2
         return 1
     }
@@ -28,13 +19,20 @@ browser_ready() {
     libraries=$(find "$unpacked" -name '*.so*' -printf '%h\n' | sort -u | paste -s -d :)
     chromium=$unpacked/headless
     # /dev/shm may be small and a sandbox needs rights that a container has not: what it opens are pages that were made here
-    script "$chromium" "env LD_LIBRARY_PATH='$libraries' FONTCONFIG_FILE='$unpacked/fonts.conf' '$program' --headless=new --no-sandbox \\
+    script "$chromium" "env LD_LIBRARY_PATH='$libraries' FONTCONFIG_FILE='$unpacked/fonts.conf' '$real' --headless=new --no-sandbox \\
     --disable-gpu --disable-dev-shm-usage --no-first-run --disable-background-networking --disable-component-update --disable-sync \\
     --disable-default-apps --disable-extensions --metrics-recording-only --hide-scrollbars --mute-audio \"\$@\""
     "$chromium" --version >/dev/null 2>&1 || {
         say 'the chromium that was fetched does not run' >&2
         return 1
     }
+}
+fetch_chromium() {
+    apt_ready chromium
+    # shellcheck disable=SC2046
+    unpack "$unpacked" fonts-dejavu-core $(lacking chromium)
+    browser_fonts >"$unpacked/fonts.conf"
+    touch "$unpacked.ok"
 }
 browser_fonts() {
     cat <<XML
