@@ -9,7 +9,7 @@ going() {
     log=$(mktemp "$cache/log.XXXXXX")
     printf 'host: %s ' "$what" >&2
     began=$(date +%s)
-    while :; do sleep 2; printf . >&2; done &
+    while sleep 2 && kill -0 $$ 2>/dev/null; do printf . >&2; done &
     dots=$!
     going_status=0
     ("$@") >"$log" 2>&1 || going_status=$?

@@ -102,6 +102,20 @@ uncoloured() { ! NO_COLOR=1 colours | grep -q "$escape" && ! ox preview samples/
 counted 'colours on a terminal' coloured
 counted 'no colours elsewhere' uncoloured
 
+# Work that passes a second has a bar, on a terminal alone, and takes it away again.
+many='full.adi full.adi full.adi full.adi full.adi full.adi full.adi full.adi'
+bar() { script -qec "$run $programs/ox preview --summary $many --log full.list >out" bar </dev/null >/dev/null && tail -n 2 out | grep -q '^against full.list'; }
+bared() {
+    bar && tr '\r' '\n' <bar | grep -q 'K\[#*>\.*\] [0-7] of 8 files, full.adi, [0-9]* s$' && tail -n 2 bar | grep -q "$escape\[K\$"
+}
+unbared() {
+    # shellcheck disable=SC2086
+    ox preview --summary $many --log full.list >out 2>err && [ ! -s err ] &&
+        script -qec "$run $programs/ox preview --summary samples/club.adi" quick </dev/null >/dev/null && ! grep -q 'samples/club.adi, ' quick
+}
+counted 'a bar on a terminal' bared
+counted 'no bar elsewhere, nor where it is quick' unbared
+
 # ---- outputs are whole or not there
 
 kept() {
