@@ -214,7 +214,7 @@ def told_to_a_screen_reader(browser):
         same(f"{width} px: heads of rows", names("rowheader"), [row[1] for row in rows_of("lotw.html") + rows_of("lotw.html", "confirmations")])
         same(f"{width} px: rows", len(names("row")), 2 + 5 + 4)
         same(f"{width} px: cells", len(names("cell")) + len(names("gridcell")), 7 * 9)
-        same(f"{width} px: boxes", names("searchbox"), ["Filter", "Filter"])
+        same(f"{width} px: boxes", names("searchbox"), ["Filter records", "Filter confirmations"])
         check(f"{width} px: status", len(names("status")) == 2)
         switches = [
             (name, prop["value"]["value"])
@@ -318,7 +318,6 @@ def bar(browser, rows):
         counts[row[6]] = counts.get(row[6], 0) + 1
     labels = {f"{count} {fate}": "true" for fate, count in counts.items()}
     same("bar: counts", browser.ask(STATE)["pressed"], labels)
-    hidden = set()
     for pressed, again in [("Space", "Enter"), ("Enter", "Space")]:
         for fate, count in counts.items():
             check(f"bar: {fate} is reached by Tab, and that is seen", from_start(browser, f"{count} {fate}"))
@@ -335,7 +334,6 @@ def bar(browser, rows):
 def paging(browser, rows):
     browser.open("large.html")
     last = (len(rows) - 1) // PAGE * PAGE
-    first = 0
     moves = [("Next", "Enter", PAGE), ("Next", "Space", 2 * PAGE), ("Previous", "Enter", PAGE), ("Last", "Space", last), ("Previous", "Space", last - PAGE),
              ("Last", "Enter", last), ("Next", "Enter", last), ("First", "Enter", 0), ("Previous", "Space", 0), ("Next", "Enter", PAGE), ("First", "Space", 0)]
     for name, pressed, first in moves:
@@ -357,28 +355,30 @@ def paging(browser, rows):
     same("pages: all rows, once", seen, rows)
 
 
-def without_script(browser, rows):
+ROWS = "Array.from(document.querySelectorAll('#records tbody tr'), row => Array.from(row.cells, cell => cell.textContent))"
+
+
+def without_script(browser):
     browser.scripts(False)
     try:
-        for width in WIDTHS:
+        for name, width in [("fieldday", 375), ("large", 1280)]:
+            where = f"{name} without a script at {width} px"
             browser.size(width)
-            browser.open("large.html")
-            found = browser.ask("Array.from(document.querySelectorAll('#records tbody tr'), row => Array.from(row.cells, cell => cell.textContent))")
-            same(f"no script at {width} px: all rows", found, rows)
+            browser.open(f"{name}.html")
+            same(f"{where}: all rows", browser.ask(ROWS), rows_of(f"{name}.html"))
             hidden = browser.ask("""Array.from(document.querySelectorAll('#records tbody tr')).filter(row => row.getBoundingClientRect().height < 10
                 || !row.cells[6].checkVisibility()).length""")
-            same(f"no script at {width} px: rows that are not seen", hidden, 0)
-            same(f"no script at {width} px: switches", browser.ask("document.querySelectorAll('button, input, [role=status]').length"), 0)
-            same(f"no script at {width} px: width", browser.ask("document.documentElement.scrollWidth"), width)
-            quiet(browser, f"no script at {width} px")
+            same(f"{where}: rows that are not seen", hidden, 0)
+            same(f"{where}: switches", browser.ask("document.querySelectorAll('button, input, [role=status]').length"), 0)
+            same(f"{where}: width", browser.ask("document.documentElement.scrollWidth"), width)
+            quiet(browser, where)
     finally:
         browser.scripts(True)
 
 
-def broken_script(browser, rows):
+def broken_script(browser):
     browser.open("broken.html")
-    found = browser.ask("Array.from(document.querySelectorAll('#records tbody tr'), row => Array.from(row.cells, cell => cell.textContent))")
-    same("a script that fails: all rows", found, rows)
+    same("a script that fails: all rows", browser.ask(ROWS), rows_of("broken.html"))
     same("a script that fails: switches", browser.ask("document.querySelectorAll('button, input').length"), 0)
 
 
@@ -414,30 +414,29 @@ TIMED = """(async act => {
 
 
 def times(browser, rows):
-    """Milliseconds; the bounds are what a person would take for a freeze, on a slow machine."""
+    """Milliseconds, the best of three runs, since something else may be at work on the machine; the bounds are what a person would take for a
+    freeze."""
     watch = """window.tasks = [];
         new PerformanceObserver(list => { for (const entry of list.getEntries()) tasks.push(entry.duration) }).observe({ type: 'longtask', buffered: true });"""
     watching = browser.call("Page.addScriptToEvaluateOnNewDocument", source=watch)["identifier"]
-    load = min(browser.open("large.html") for _ in range(3))
-    longest = {"load": browser.ask("Math.max(0, ...tasks)")}
     box = "document.querySelector('input')"
     put = lambda words: f"{TIMED}(() => {{ {box}.value = '{words}'; {box}.dispatchEvent(new Event('input')) }})"
-    browser.ask("tasks.length = 0")
-    filters = [browser.ask(put(words)) for words in ["1", "12", "124", "1240", "", "40m ssb", ""]]
-    browser.rest()
-    longest["filter"] = browser.ask("Math.max(0, ...tasks)")
-    browser.ask("tasks.length = 0")
-    sorts = [browser.ask(f"{TIMED}(() => document.querySelectorAll('#records thead button')[{column}].click())") for column in range(8) for _ in "ud"]
-    browser.rest()
-    longest["sort"] = browser.ask("Math.max(0, ...tasks)")
+    press = lambda column: f"{TIMED}(() => document.querySelectorAll('#records thead button')[{column}].click())"
+    runs = []
+    for _ in range(3):
+        load = browser.open("large.html")
+        filters = max(browser.ask(put(words)) for words in ["1", "12", "124", "1240", "", "40m ssb", ""])
+        sorts = max(browser.ask(press(column)) for column in range(8) for _ in ["up", "down"])
+        browser.rest()
+        runs.append((load, filters, sorts, browser.ask("Math.max(0, ...tasks)")))
     browser.call("Page.removeScriptToEvaluateOnNewDocument", identifier=watching)
-    task = max(longest.values())
-    print(f"browser: {len(rows)} records: load {load:.0f} ms, filter at most {max(filters):.0f} ms, sort at most {max(sorts):.0f} ms, longest task "
-          f"{task:.0f} ms" if task else "below 50 ms", flush=True)
-    check("times: load", load < 5000, load)
-    check("times: filter", max(filters) < 1000, filters)
-    check("times: sort", max(sorts) < 1000, sorts)
-    check("times: longest task", task < 1000, longest)
+    load, filters, sorts, task = map(min, zip(*runs))
+    took = f"load {load:.0f} ms, filter at most {filters:.0f} ms, sort at most {sorts:.0f} ms"
+    print(f"browser: {len(rows)} records: {took}, longest task {f'{task:.0f} ms' if task else 'below 50 ms'}", flush=True)
+    check("times: load", load < 3000, runs)
+    check("times: filter", filters < 700, runs)
+    check("times: sort", sorts < 700, runs)
+    check("times: longest task", task < 700, runs)
 
 
 def main():
@@ -459,8 +458,8 @@ def main():
         bar(browser, rows)
         paging(browser, rows)
         printing(browser, rows)
-        without_script(browser, rows)
-        broken_script(browser, rows)
+        without_script(browser)
+        broken_script(browser)
         times(browser, rows)
     finally:
         browser.close()
@@ -468,4 +467,5 @@ def main():
     return failed > 0
 
 
-sys.exit(main())
+if __name__ == "__main__":
+    sys.exit(main())

@@ -84,7 +84,7 @@ paged ignored.html samples/club.adi --download
 paged refused.html samples/wrong-length.adi
 paged hostile.html '<b>&"hostile.adi'
 paged large.html large.adi --log large.list
-# the same with a script that fails at once
-sed "s/^'use strict';/&throw new Error('broken');/" large.html >broken.html
+# a script that fails at once
+sed "s/^'use strict';/&throw new Error('broken');/" fieldday.html >broken.html
 
 python3 "$here/test.py" "$chromium"
