@@ -8,26 +8,23 @@ browser_ready() {
         say 'no python3 to drive a browser with' >&2
         return 1
     }
-    unpacked=$cache/chromium
-    if [ ! -f "$unpacked.ok" ]; then
-        # in a shell of its own, since what cannot be fetched ends the shell that asks for it
-        (
-            apt_ready chromium
-            # shellcheck disable=SC2046
-            unpack "$unpacked" fonts-dejavu-core $(lacking chromium)
-        ) || return 1
-        browser_fonts >"$unpacked/fonts.conf"
-        touch "$unpacked.ok"
-    fi
+    unpacked=$cache/chromium chromium=$cache/chromium/headless
+    [ ! -f "$unpacked.ok" ] || return 0
+    # in a shell of its own, since what cannot be fetched ends the shell that asks for it
+    (
+        apt_ready chromium
+        # shellcheck disable=SC2046
+        unpack "$unpacked" fonts-dejavu-core $(lacking chromium)
+    ) || return 1
+    browser_fonts >"$unpacked/fonts.conf"
     program=$unpacked/usr/lib/chromium/chromium
     [ -x "$program" ] || program=$(command -v chromium) || {
-        say 'no chromium, neither on the machine nor in what was fetched' >&2
+        say 'cannot fetch chromium: none for this machine' >&2
         return 1
     }
-    # a library may lie in a folder that only the library beside it would know where it is installed
+    # a library may lie in a folder that only the library beside it knows, and knows it as installed
     libraries=$(find "$unpacked" -name '*.so*' -printf '%h\n' | sort -u | paste -s -d :)
-    chromium=$unpacked/headless
-    # /dev/shm may be small and a sandbox needs rights that a container has not: what it opens are pages that were made here
+    # a sandbox needs rights that a container has not, and /dev/shm may be small there: what it opens are pages that were made here
     script "$chromium" "env LD_LIBRARY_PATH='$libraries' FONTCONFIG_FILE='$unpacked/fonts.conf' '$program' --headless=new --no-sandbox \\
     --disable-gpu --disable-dev-shm-usage --no-first-run --disable-background-networking --disable-component-update --disable-sync \\
     --disable-default-apps --disable-extensions --metrics-recording-only --hide-scrollbars --mute-audio \"\$@\""
@@ -35,6 +32,7 @@ browser_ready() {
         say 'the chromium that was fetched does not run' >&2
         return 1
     }
+    touch "$unpacked.ok"
 }
 browser_fonts() {
     cat <<XML

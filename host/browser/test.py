@@ -53,6 +53,8 @@ STATE = """(() => {
     };
 })()"""
 
+ROWS = "Array.from(document.querySelectorAll('#records tbody tr'), row => Array.from(row.cells, cell => cell.textContent))"
+
 # elements that reach out of the window, cells whose text does not fit, calls and fates on two lines or not to be seen
 CUT = """(() => {
     const told = [], wide = document.documentElement.clientWidth;
@@ -175,18 +177,19 @@ def focus(browser, text):
 
 
 def from_start(browser, text):
-    browser.ask("document.activeElement.blur(); getSelection().removeAllRanges(); scrollTo(0, 0)")
+    # the heading is where Tab starts from
+    browser.ask("{ const start = document.querySelector('h1'); start.tabIndex = -1; start.focus(); scrollTo(0, 0) }")
     return focus(browser, text)
 
 
 # ---- the parts
 
 
-def small_pages(browser):
+def all_pages(browser):
     kinds = set()
-    for name in ["fieldday", "lotw", "club", "some", "ignored", "hostile", "refused"]:
+    for name in ["fieldday", "lotw", "club", "some", "ignored", "hostile", "refused", "large"]:
         kinds |= looks(browser, name)
-    return kinds
+    same("all kinds of rows were seen", len(kinds), 7)
 
 
 def origin(browser):
@@ -216,6 +219,9 @@ def told_to_a_screen_reader(browser):
         same(f"{width} px: cells", len(names("cell")) + len(names("gridcell")), 7 * 9)
         same(f"{width} px: boxes", names("searchbox"), ["Filter records", "Filter confirmations"])
         check(f"{width} px: status", len(names("status")) == 2)
+        # other browsers forget what is no table to the style
+        bare = browser.ask("document.querySelectorAll('tbody tr:not([role=row]), tbody th:not([role=rowheader]), tbody td:not([role=cell])').length")
+        same(f"{width} px: cells without a role", bare, 0)
         switches = [
             (name, prop["value"]["value"])
             for _, name, node in nodes
@@ -355,7 +361,21 @@ def paging(browser, rows):
     same("pages: all rows, once", seen, rows)
 
 
-ROWS = "Array.from(document.querySelectorAll('#records tbody tr'), row => Array.from(row.cells, cell => cell.textContent))"
+def second_table(browser):
+    """What is newly confirmed has pages of its own, which do not lie on those of the records."""
+    browser.open("large.html")
+    confirmed = rows_of("large.html", "confirmations")
+    check("confirmations: some", confirmed)
+    at = "document.getElementById('confirmations').parentNode"
+    found = browser.ask(ROWS.replace("#records", "#confirmations"))
+    same("confirmations: rows", found, confirmed[:PAGE])
+    same("confirmations: status", browser.ask(f"{at}.querySelector('[role=status]').textContent.split(',')[0]"), f"{len(confirmed)} of {len(confirmed)} confirmations shown")
+    same("confirmations: pages", browser.ask(f"{at}.querySelector('.pages').hidden"), len(confirmed) <= PAGE)
+    below = "document.elementFromPoint(innerWidth / 2, innerHeight - 4).closest('.pages').getAttribute('aria-label')"
+    same("confirmations: their pages are not over those of the records", browser.ask(below), "Pages of records")
+    browser.ask(f"{at}.querySelectorAll('thead button')[1].click()")
+    same("confirmations: sorted by themselves", browser.ask(ROWS.replace("#records", "#confirmations")), sorted(confirmed, key=key(1))[:PAGE])
+    same("confirmations: the records stay", browser.ask(STATE)["sorted"], ["ascending"] + [None] * 7)
 
 
 def without_script(browser):
@@ -440,27 +460,27 @@ def times(browser, rows):
 
 
 def main():
+    rows = rows_of("large.html")
+    same("large: as the file has it", [row[:6] for row in rows], [line.split("\t") for line in read("large.tsv").splitlines()])
     browser = Browser([sys.argv[1]])
+
+    def part(test, *given):
+        try:
+            return test(browser, *given)
+        except (RuntimeError, TimeoutError, KeyError, TypeError) as error:
+            check(test.__name__, False, error)
+
     try:
-        rows = rows_of("large.html")
-        same("large: as the file has it", [row[:6] for row in rows], [line.split("\t") for line in read("large.tsv").splitlines()])
-        kinds = small_pages(browser) | looks(browser, "large")
-        same("all kinds of rows were seen", len(kinds), 7)
-        origin(browser)
-        told_to_a_screen_reader(browser)
-        some_records(browser)
-        hostile(browser)
-        refused(browser)
+        part(all_pages)
+        for test in [origin, told_to_a_screen_reader, some_records, hostile, refused]:
+            part(test)
         for width in WIDTHS:
             browser.size(width)
-            filtering(browser, rows)
-        sorting(browser, rows)
-        bar(browser, rows)
-        paging(browser, rows)
-        printing(browser, rows)
-        without_script(browser)
-        broken_script(browser)
-        times(browser, rows)
+            part(filtering, rows)
+        for test in [sorting, bar, paging, printing, times]:
+            part(test, rows)
+        for test in [second_table, without_script, broken_script]:
+            part(test)
     finally:
         browser.close()
     print(f"browser: {passed} passed, {failed} failed")

@@ -52,7 +52,8 @@ awk -v records="$records" '
             print n "\t" c "\t" d "\t" time "\t" b "\t" m >"large.tsv"
         }
     }' >large.adi
-head -n "$((records / 5))" large.adi >logged.adi
+# the log has the first fifth, and no confirmation
+head -n "$((records / 5))" large.adi | sed 's/<QSL_RCVD:1>Y //' >logged.adi
 # texts that want to be markup, to turn the reading order, to be found whole in a box, or to stretch the page
 awk '
     function field(name, value, bytes) { return "<" name ":" bytes ">" value " " }

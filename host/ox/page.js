@@ -126,7 +126,7 @@ function live(held, named) {
 
   table.classList.add('live');
   tellOrder();
-  table.before(made('div', { class: 'controls', role: 'search' }, label, box, status));
+  table.before(made('div', { class: 'controls' }, label, box, status));
   table.after(pages);
   show(0);
   return {
