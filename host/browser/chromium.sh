@@ -1,8 +1,9 @@
 # browser_ready: Debian's chromium, unpacked and never installed, for host.sh, whose functions and $cache it uses. It sets $chromium to a
 # command that runs it without a window. Where that cannot be had it says why in one line and returns 1: a part that was not run has not failed.
 
-# the machine's own where it has one; else it and what it needs, fetched once. The fonts are fetched in either case and are the only ones
+# The machine's own where it has one; else it and what it needs, fetched once. The fonts are fetched in either case and are the only ones
 # that the browser sees, so that a text is as wide on one machine as on another.
+# shellcheck disable=SC2154
 browser_ready() {
     command -v python3 >/dev/null || {
         say 'no python3 to drive a browser with' >&2
