@@ -53,6 +53,8 @@ STATE = """(() => {
     };
 })()"""
 
+ROWS = "Array.from(document.querySelectorAll('#records tbody tr'), row => Array.from(row.cells, cell => cell.textContent))"
+
 # elements that reach out of the window, cells whose text does not fit, calls and fates on two lines or not to be seen
 CUT = """(() => {
     const told = [], wide = document.documentElement.clientWidth;
@@ -175,18 +177,19 @@ def focus(browser, text):
 
 
 def from_start(browser, text):
-    browser.ask("document.activeElement.blur(); getSelection().removeAllRanges(); scrollTo(0, 0)")
+    # the heading is where Tab starts from
+    browser.ask("{ const start = document.querySelector('h1'); start.tabIndex = -1; start.focus(); scrollTo(0, 0) }")
     return focus(browser, text)
 
 
 # ---- the parts
 
 
-def small_pages(browser):
+def all_pages(browser):
     kinds = set()
-    for name in ["fieldday", "lotw", "club", "some", "ignored", "hostile", "refused"]:
+    for name in ["fieldday", "lotw", "club", "some", "ignored", "hostile", "refused", "large"]:
         kinds |= looks(browser, name)
-    return kinds
+    same("all kinds of rows were seen", len(kinds), 7)
 
 
 def origin(browser):
@@ -214,8 +217,11 @@ def told_to_a_screen_reader(browser):
         same(f"{width} px: heads of rows", names("rowheader"), [row[1] for row in rows_of("lotw.html") + rows_of("lotw.html", "confirmations")])
         same(f"{width} px: rows", len(names("row")), 2 + 5 + 4)
         same(f"{width} px: cells", len(names("cell")) + len(names("gridcell")), 7 * 9)
-        same(f"{width} px: boxes", names("searchbox"), ["Filter", "Filter"])
+        same(f"{width} px: boxes", names("searchbox"), ["Filter records", "Filter confirmations"])
         check(f"{width} px: status", len(names("status")) == 2)
+        # other browsers forget what is no table to the style
+        bare = browser.ask("document.querySelectorAll('tbody tr:not([role=row]), tbody th:not([role=rowheader]), tbody td:not([role=cell])').length")
+        same(f"{width} px: cells without a role", bare, 0)
         switches = [
             (name, prop["value"]["value"])
             for _, name, node in nodes
@@ -241,7 +247,9 @@ def hostile(browser):
     browser.size(1280)
     calls = [row[1] for row in browser.ask(STATE)["rows"]]
     long = "W" * 4096
-    same("hostile: texts are texts", calls, ["<script>hacked = 1</script>", "<img src=x onerror=hacked=1>", 'W1AW&amp;"', "A\ufffdB\ufffdC", "\u05d0\u05d1\u05d2", long, "W" * 16, "</noscript>"])
+    wanted = ["<script>hacked = 1</script>", "<img src=x onerror=hacked=1>", 'W1AW&amp;"', "A\ufffdB\ufffdC", "\u05d0\u05d1\u05d2", long, "W" * 16,
+              "</noscript>"]
+    same("hostile: texts are texts", calls, wanted)
     same("hostile: name", browser.ask("document.querySelector('h1').textContent"), 'Preview of <b>&"hostile.adi')
     from_start(browser, "Filter")
     browser.type('&amp;"')
@@ -260,7 +268,8 @@ def refused(browser):
         browser.size(width)
         browser.open("refused.html")
         text = browser.ask("document.querySelector('main').innerText")
-        for part in ["Refused 6", "samples/wrong-length.adi", "field QTH, line 4, column 78, 900 bytes wanted, 95 left", "Count the bytes of the value"]:
+        told = ["Refused 6", "samples/wrong-length.adi", "field QTH, line 4, column 78, 900 bytes wanted, 95 left", "Count the bytes of the value"]
+        for part in told:
             check(f"refused at {width} px: {part}", part in text, text)
         same(f"refused at {width} px: mark", browser.ask("document.querySelector('pre mark').innerText"), "QTH")
         check(f"refused at {width} px: excerpt", browser.ask("document.querySelector('pre').textContent").endswith("<QTH:900>Odense <EOR>"))
@@ -318,7 +327,6 @@ def bar(browser, rows):
         counts[row[6]] = counts.get(row[6], 0) + 1
     labels = {f"{count} {fate}": "true" for fate, count in counts.items()}
     same("bar: counts", browser.ask(STATE)["pressed"], labels)
-    hidden = set()
     for pressed, again in [("Space", "Enter"), ("Enter", "Space")]:
         for fate, count in counts.items():
             check(f"bar: {fate} is reached by Tab, and that is seen", from_start(browser, f"{count} {fate}"))
@@ -335,9 +343,9 @@ def bar(browser, rows):
 def paging(browser, rows):
     browser.open("large.html")
     last = (len(rows) - 1) // PAGE * PAGE
-    first = 0
-    moves = [("Next", "Enter", PAGE), ("Next", "Space", 2 * PAGE), ("Previous", "Enter", PAGE), ("Last", "Space", last), ("Previous", "Space", last - PAGE),
-             ("Last", "Enter", last), ("Next", "Enter", last), ("First", "Enter", 0), ("Previous", "Space", 0), ("Next", "Enter", PAGE), ("First", "Space", 0)]
+    moves = [("Next", "Enter", PAGE), ("Next", "Space", 2 * PAGE), ("Previous", "Enter", PAGE), ("Last", "Space", last),
+             ("Previous", "Space", last - PAGE), ("Last", "Enter", last), ("Next", "Enter", last), ("First", "Enter", 0), ("Previous", "Space", 0),
+             ("Next", "Enter", PAGE), ("First", "Space", 0)]
     for name, pressed, first in moves:
         check(f"pages: {name} is reached by Tab, and that is seen", from_start(browser, name))
         browser.key(pressed)
@@ -357,28 +365,45 @@ def paging(browser, rows):
     same("pages: all rows, once", seen, rows)
 
 
-def without_script(browser, rows):
+def second_table(browser):
+    """What is newly confirmed has pages of its own, which do not lie on those of the records."""
+    browser.open("large.html")
+    confirmed = rows_of("large.html", "confirmations")
+    check("confirmations: some", confirmed)
+    at = "document.getElementById('confirmations').parentNode"
+    found = browser.ask(ROWS.replace("#records", "#confirmations"))
+    same("confirmations: rows", found, confirmed[:PAGE])
+    told = browser.ask(f"{at}.querySelector('[role=status]').textContent")
+    check("confirmations: status", told.startswith(f"{len(confirmed):,} of {len(confirmed):,} confirmations shown, sorted by Id, ascending"), told)
+    same("confirmations: pages", browser.ask(f"{at}.querySelector('.pages').hidden"), len(confirmed) <= PAGE)
+    below = "document.elementFromPoint(innerWidth / 2, innerHeight - 4).closest('.pages').getAttribute('aria-label')"
+    same("confirmations: their pages are not over those of the records", browser.ask(below), "Pages of records")
+    browser.ask(f"{at}.querySelectorAll('thead button')[1].click()")
+    same("confirmations: sorted by themselves", browser.ask(ROWS.replace("#records", "#confirmations")), sorted(confirmed, key=key(1))[:PAGE])
+    same("confirmations: the records stay", browser.ask(STATE)["sorted"], ["ascending"] + [None] * 7)
+
+
+def without_script(browser):
     browser.scripts(False)
     try:
-        for width in WIDTHS:
+        for name, width in [("fieldday", 375), ("large", 1280)]:
+            where = f"{name} without a script at {width} px"
             browser.size(width)
-            browser.open("large.html")
-            found = browser.ask("Array.from(document.querySelectorAll('#records tbody tr'), row => Array.from(row.cells, cell => cell.textContent))")
-            same(f"no script at {width} px: all rows", found, rows)
+            browser.open(f"{name}.html")
+            same(f"{where}: all rows", browser.ask(ROWS), rows_of(f"{name}.html"))
             hidden = browser.ask("""Array.from(document.querySelectorAll('#records tbody tr')).filter(row => row.getBoundingClientRect().height < 10
                 || !row.cells[6].checkVisibility()).length""")
-            same(f"no script at {width} px: rows that are not seen", hidden, 0)
-            same(f"no script at {width} px: switches", browser.ask("document.querySelectorAll('button, input, [role=status]').length"), 0)
-            same(f"no script at {width} px: width", browser.ask("document.documentElement.scrollWidth"), width)
-            quiet(browser, f"no script at {width} px")
+            same(f"{where}: rows that are not seen", hidden, 0)
+            same(f"{where}: switches", browser.ask("document.querySelectorAll('button, input, [role=status]').length"), 0)
+            same(f"{where}: width", browser.ask("document.documentElement.scrollWidth"), width)
+            quiet(browser, where)
     finally:
         browser.scripts(True)
 
 
-def broken_script(browser, rows):
+def broken_script(browser):
     browser.open("broken.html")
-    found = browser.ask("Array.from(document.querySelectorAll('#records tbody tr'), row => Array.from(row.cells, cell => cell.textContent))")
-    same("a script that fails: all rows", found, rows)
+    same("a script that fails: all rows", browser.ask(ROWS), rows_of("broken.html"))
     same("a script that fails: switches", browser.ask("document.querySelectorAll('button, input').length"), 0)
 
 
@@ -400,7 +425,8 @@ def printing(browser, rows):
     told = browser.ask(CONTRAST)
     same("print: light", told["ground"], "rgb(255, 255, 255)")
     check("print: contrast", told["least"][0] >= 4.5, told["least"])
-    same("print: no switches", browser.ask("Array.from(document.querySelectorAll('input, .pages')).filter(element => element.checkVisibility()).length"), 0)
+    seen = browser.ask("Array.from(document.querySelectorAll('input, .pages')).filter(element => element.checkVisibility()).length")
+    same("print: no switches", seen, 0)
     browser.scheme("light")
 
 
@@ -414,58 +440,59 @@ TIMED = """(async act => {
 
 
 def times(browser, rows):
-    """Milliseconds; the bounds are what a person would take for a freeze, on a slow machine."""
+    """Milliseconds, the best of three runs, since something else may be at work on the machine; the bounds are what a person would take for a
+    freeze."""
     watch = """window.tasks = [];
-        new PerformanceObserver(list => { for (const entry of list.getEntries()) tasks.push(entry.duration) }).observe({ type: 'longtask', buffered: true });"""
+        new PerformanceObserver(list => { for (const entry of list.getEntries()) tasks.push(entry.duration) })
+            .observe({ type: 'longtask', buffered: true });"""
     watching = browser.call("Page.addScriptToEvaluateOnNewDocument", source=watch)["identifier"]
-    load = min(browser.open("large.html") for _ in range(3))
-    longest = {"load": browser.ask("Math.max(0, ...tasks)")}
     box = "document.querySelector('input')"
     put = lambda words: f"{TIMED}(() => {{ {box}.value = '{words}'; {box}.dispatchEvent(new Event('input')) }})"
-    browser.ask("tasks.length = 0")
-    filters = [browser.ask(put(words)) for words in ["1", "12", "124", "1240", "", "40m ssb", ""]]
-    browser.rest()
-    longest["filter"] = browser.ask("Math.max(0, ...tasks)")
-    browser.ask("tasks.length = 0")
-    sorts = [browser.ask(f"{TIMED}(() => document.querySelectorAll('#records thead button')[{column}].click())") for column in range(8) for _ in "ud"]
-    browser.rest()
-    longest["sort"] = browser.ask("Math.max(0, ...tasks)")
+    press = lambda column: f"{TIMED}(() => document.querySelectorAll('#records thead button')[{column}].click())"
+    runs = []
+    for _ in range(3):
+        load = browser.open("large.html")
+        filters = max(browser.ask(put(words)) for words in ["1", "12", "124", "1240", "", "40m ssb", ""])
+        sorts = max(browser.ask(press(column)) for column in range(8) for _ in ["up", "down"])
+        browser.rest()
+        runs.append((load, filters, sorts, browser.ask("Math.max(0, ...tasks)")))
     browser.call("Page.removeScriptToEvaluateOnNewDocument", identifier=watching)
-    task = max(longest.values())
-    print(f"browser: {len(rows)} records: load {load:.0f} ms, filter at most {max(filters):.0f} ms, sort at most {max(sorts):.0f} ms, longest task "
-          f"{task:.0f} ms" if task else "below 50 ms", flush=True)
-    check("times: load", load < 5000, load)
-    check("times: filter", max(filters) < 1000, filters)
-    check("times: sort", max(sorts) < 1000, sorts)
-    check("times: longest task", task < 1000, longest)
+    load, filters, sorts, task = map(min, zip(*runs))
+    took = f"load {load:.0f} ms, filter at most {filters:.0f} ms, sort at most {sorts:.0f} ms"
+    print(f"browser: {len(rows)} records: {took}, longest task {f'{task:.0f} ms' if task else 'below 50 ms'}", flush=True)
+    check("times: load", load < 3000, runs)
+    check("times: filter", filters < 700, runs)
+    check("times: sort", sorts < 700, runs)
+    check("times: longest task", task < 700, runs)
 
 
 def main():
+    rows = rows_of("large.html")
+    same("large: as the file has it", [row[:6] for row in rows], [line.split("\t") for line in read("large.tsv").splitlines()])
     browser = Browser([sys.argv[1]])
+
+    def part(test, *given):
+        try:
+            return test(browser, *given)
+        except Exception as error:  # whatever broke it off, the others are still run and counted
+            check(test.__name__, False, repr(error))
+
     try:
-        rows = rows_of("large.html")
-        same("large: as the file has it", [row[:6] for row in rows], [line.split("\t") for line in read("large.tsv").splitlines()])
-        kinds = small_pages(browser) | looks(browser, "large")
-        same("all kinds of rows were seen", len(kinds), 7)
-        origin(browser)
-        told_to_a_screen_reader(browser)
-        some_records(browser)
-        hostile(browser)
-        refused(browser)
+        part(all_pages)
+        for test in [origin, told_to_a_screen_reader, some_records, hostile, refused]:
+            part(test)
         for width in WIDTHS:
             browser.size(width)
-            filtering(browser, rows)
-        sorting(browser, rows)
-        bar(browser, rows)
-        paging(browser, rows)
-        printing(browser, rows)
-        without_script(browser, rows)
-        broken_script(browser, rows)
-        times(browser, rows)
+            part(filtering, rows)
+        for test in [sorting, bar, paging, printing, times]:
+            part(test, rows)
+        for test in [second_table, without_script, broken_script]:
+            part(test)
     finally:
         browser.close()
     print(f"browser: {passed} passed, {failed} failed")
     return failed > 0
 
 
-sys.exit(main())
+if __name__ == "__main__":
+    sys.exit(main())

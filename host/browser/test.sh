@@ -48,16 +48,19 @@ awk -v records="$records" '
             }
             c = n % 501 ? call : ""
             d = n % 503 ? date : ""
-            print field("CALL", c) field("QSO_DATE", d) field("TIME_ON", time) field("BAND", b) field("MODE", m) (n % 11 ? "" : "<QSL_RCVD:1>Y ") "<EOR>"
+            print field("CALL", c) field("QSO_DATE", d) field("TIME_ON", time) field("BAND", b) field("MODE", m) \
+                (n % 11 ? "" : "<QSL_RCVD:1>Y ") "<EOR>"
             print n "\t" c "\t" d "\t" time "\t" b "\t" m >"large.tsv"
         }
     }' >large.adi
-head -n "$((records / 5))" large.adi >logged.adi
+# the log has the first fifth, and no confirmation
+head -n "$((records / 5))" large.adi | sed 's/<QSL_RCVD:1>Y //' >logged.adi
 # texts that want to be markup, to turn the reading order, to be found whole in a box, or to stretch the page
 awk '
     function field(name, value, bytes) { return "<" name ":" bytes ">" value " " }
     function put(call, bytes, band, mode) {
-        print field("CALL", call, bytes) field("QSO_DATE", "20260613", 8) field("TIME_ON", "1804", 4) field("BAND", band, length(band)) field("MODE", mode, length(mode)) "<EOR>"
+        print field("CALL", call, bytes) field("QSO_DATE", "20260613", 8) field("TIME_ON", "1804", 4) \
+            field("BAND", band, length(band)) field("MODE", mode, length(mode)) "<EOR>"
     }
     BEGIN {
         long = "WWWWWWWW"
@@ -72,10 +75,13 @@ awk '
         put("</noscript>", 11, "40m", "SSB")
     }' >'<b>&"hostile.adi'
 
-ox list samples/station.adi station.list >said 2>&1 && ox list logged.adi large.list >said 2>&1 || {
-    cat said
-    exit 1
-}
+for log in samples/station logged; do
+    ox list $log.adi "${log#samples/}.list" >said 2>&1 || {
+        cat said
+        echo "browser: no list of $log.adi"
+        exit 1
+    }
+done
 paged lotw.html samples/lotw.adi --log station.list --download
 paged fieldday.html samples/fieldday.adi --log station.list
 paged club.html samples/club.adi
@@ -83,8 +89,8 @@ paged some.html samples/fieldday.adi --log station.list --only duplicate-in-log
 paged ignored.html samples/club.adi --download
 paged refused.html samples/wrong-length.adi
 paged hostile.html '<b>&"hostile.adi'
-paged large.html large.adi --log large.list
-# the same with a script that fails at once
-sed "s/^'use strict';/&throw new Error('broken');/" large.html >broken.html
+paged large.html large.adi --log logged.list
+# a script that fails at once
+sed "s/^'use strict';/&throw new Error('broken');/" fieldday.html >broken.html
 
 python3 "$here/test.py" "$chromium"

@@ -117,8 +117,8 @@ fn bar(counts: &[(&str, usize)]) -> String {
     format!("<ul id=\"bar\" aria-label=\"Records by fate\">\n{}</ul>\n", counts.iter().map(part).collect::<String>())
 }
 
-/// A table. Where a script runs, what `noscript` holds is a text to the browser, and no table of some 100,000 cells. The roles are those that it
-/// has by itself: where the style lays it out as cards, some browsers forget them.
+/// A table. Where a script runs, what `noscript` holds is a text to the browser, and no table of some 100,000 cells. The roles are those that
+/// it has by itself: where the style lays it out as cards, some browsers forget them.
 fn tabled(id: &str, caption: &str, heads: [&str; 8], rows: &str) -> String {
     let head = |name: &&str| {
         let order = match *name {
@@ -203,7 +203,8 @@ fn document(origin: &Origin, title: &str, style: &str, body: &str, script: Optio
     let late = script.map_or(String::new(), |script| format!("<script nonce=\"{key}\">\n{script}</script>\n"));
     format!(
         "<!DOCTYPE html>\n<html lang=\"en\">\n<head>\n<meta charset=\"utf-8\">\n\
-         <meta http-equiv=\"Content-Security-Policy\" content=\"default-src 'none'; style-src 'nonce-{key}';{scripts} base-uri 'none'; form-action 'none'\">\n\
+         <meta http-equiv=\"Content-Security-Policy\" content=\"default-src 'none'; style-src 'nonce-{key}';{scripts} \
+         base-uri 'none'; form-action 'none'\">\n\
          <meta name=\"viewport\" content=\"width=device-width, initial-scale=1\">\n<title>{title}</title>\n\
          <style nonce=\"{key}\">\n{STYLE}{style}</style>\n{early}</head>\n<body>\n<main>\n{body}</main>\n{}{late}</body>\n</html>\n",
         foot(origin),
@@ -228,4 +229,5 @@ fn foot(origin: &Origin) -> String {
 const STYLE: &str = include_str!("page.css");
 const SCRIPT: &str = include_str!("page.js");
 /// Where the script fails, the tables are shown as they would be without it.
-const EARLY: &str = "onerror = () => { for (const held of document.querySelectorAll('noscript')) held.parentNode.innerHTML = held.textContent; };";
+const EARLY: &str = "onerror = () => { \
+    for (const held of document.querySelectorAll('noscript')) held.parentNode.innerHTML = held.textContent; };";

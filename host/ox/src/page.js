@@ -48,7 +48,7 @@ function live(held, named) {
 
   const box = made('input', { type: 'search', id: `filter-${table.id}`, placeholder: 'such as 40m ssb', autocomplete: 'off', spellcheck: 'false',
     'aria-controls': table.id });
-  const label = made('label', { for: box.id }, 'Filter');
+  const label = made('label', { for: box.id }, `Filter ${named}`);
   const status = made('p', { role: 'status', 'aria-live': 'polite' });
   const range = made('span', {});
   const to = { First: () => 0, Previous: () => first - PAGE, Next: () => first + PAGE, Last: () => end() };
@@ -126,7 +126,7 @@ function live(held, named) {
 
   table.classList.add('live');
   tellOrder();
-  table.before(made('div', { class: 'controls', role: 'search' }, label, box, status));
+  table.before(made('div', { class: 'controls' }, label, box, status));
   table.after(pages);
   show(0);
   return {
