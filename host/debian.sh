@@ -59,7 +59,8 @@ unpack() {
     # shellcheck disable=SC2086
     (cd "$cache/debs" && apt-get $apt download "$@") >>"$cache/apt/log" 2>&1 || unfetched "$@"
     for deb in "$cache"/debs/*.deb; do
-        dpkg-deb --fsys-tarfile "$deb" | tar -x -C "$into" --exclude=./usr/share/doc --exclude=./usr/share/man
+        dpkg-deb --fsys-tarfile "$deb" | tar -x -C "$into" --exclude=./usr/share/doc --exclude=./usr/share/man ||
+            die "cannot unpack ${deb##*/}"
     done
     rm -rf "$cache/debs"
 }

@@ -112,7 +112,7 @@ staticlib() {
     # the last are the longest
     echo "$areas" | tac | xargs -n 1 -P "$lanes" --process-slot-var=LANE "$0" area || die "the library was not built"
     for area in $areas; do
-        (cd "$archive" && "$tools/bin/llvm-ar" x "lib$area.a" "$area.o" && "$tools/bin/llvm-ar" rcs "$made.new" "$area.o" && rm "$area.o")
+        (cd "$archive" && "$tools/bin/llvm-ar" x "lib$area.a" "$area.o" && "$tools/bin/llvm-ar" rcsD "$made.new" "$area.o" && rm "$area.o")
     done
     rm -rf "$root/target/lanes"
     printf 'sources %s\nkit %s\n' "$("$host/sources.sh")" "$(rt version)" >"$archive/BUILT"
