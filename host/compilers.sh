@@ -70,7 +70,7 @@ for_rust() {
     run='' flags=''
     case $arch in
     x86_64)
-        if is_new_enough; then
+        if is_new_enough rustc; then
             rustc=rustc rustdoc=rustdoc
         else
             rust_of_debian
@@ -84,8 +84,9 @@ for_rust() {
     *) no_recipe ;;
     esac
 }
+# is_new_enough TOOL: whether the machine has it, of a version that knows the edition of host/Cargo.toml
 is_new_enough() {
-    version=$(rustc -V 2>/dev/null | sed -n 's/^rustc 1\.\([0-9]*\)\..*/\1/p')
+    version=$("$1" -V 2>/dev/null | sed -n "s/^$1 1\.\([0-9]*\)\..*/\1/p")
     [ "${version:-0}" -ge 85 ]
 }
 rust_of_debian() {
@@ -124,7 +125,7 @@ for_cargo() {
     for_rust
     crates
     cargo=cargo
-    if ! command -v cargo >/dev/null; then
+    if ! is_new_enough cargo; then
         mkdir -p "$out/link"
         cargo=$out/link/cargo
         script "$cargo" "env LD_LIBRARY_PATH=$(echo "$cache"/cargo/usr/lib/*-linux-gnu) $cache/cargo/usr/bin/cargo \"\$@\""
@@ -141,11 +142,11 @@ for_cargo() {
     CARGO_ENCODED_RUSTFLAGS=$(printf '%s\037' "$@")
     export CARGO_ENCODED_RUSTFLAGS="${CARGO_ENCODED_RUSTFLAGS%?}"
 }
-# The crates of others that `ox` uses, and a cargo where the machine has none. The versions are Debian's; Cargo.lock has them.
+# The crates of others that `ox` uses, and a cargo where the machine has none that will do. The versions are Debian's; Cargo.lock has them.
 crates='clap clap-lex clap-complete bitflags os-str-bytes strsim humantime serde serde-derive serde-json itoa ryu sha2 digest block-buffer
     crypto-common generic-array typenum cfg-if cpufeatures version-check syn quote proc-macro2 unicode-ident once-cell libc'
 crates() {
-    if [ "$(cat "$cache/crates.ok" 2>/dev/null)" != "$crates" ] || { ! command -v cargo >/dev/null && [ ! -f "$cache/cargo.ok" ]; }; then
+    if [ "$(cat "$cache/crates.ok" 2>/dev/null)" != "$crates" ] || { ! is_new_enough cargo && [ ! -f "$cache/cargo.ok" ]; }; then
         going "fetching what ox is made with from Debian's packages" fetch_crates || exit 1
     fi
     mkdir -p "$root/.cache"
@@ -156,7 +157,7 @@ fetch_crates() {
     # shellcheck disable=SC2046,SC2086
     unpack "$cache/crates" $(printf 'librust-%s-dev ' $crates)
     echo "$crates" >"$cache/crates.ok"
-    command -v cargo >/dev/null || [ -f "$cache/cargo.ok" ] || {
+    is_new_enough cargo || [ -f "$cache/cargo.ok" ] || {
         # shellcheck disable=SC2046
         unpack "$cache/cargo" cargo-web $(lacking cargo-web | grep '^lib' | grep -v -e rust -e -dev)
         touch "$cache/cargo.ok"
