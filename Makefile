@@ -6,7 +6,7 @@
 help:
 	@echo 'Oxbreathe: what importing an amateur radio log (ADIF) would do, before anything is imported'
 	@echo
-	@echo '  make preview FILE=samples/club.adi  what importing a file would do        FIRST; again 1 s'
+	@echo '  make preview FILE=samples/club.adi  what importing a file would do        a minute, once; then at once'
 	@echo '  make ox                             the tool for the log desk, target/ox  as long, once'
 	@echo '  make install PREFIX=/usr/local      ox, its manual page and completions   as long, once'
 	@echo '  make uninstall PREFIX=/usr/local    takes them away                       at once'
@@ -16,8 +16,8 @@ help:
 	@echo '  make library                        the proved library, built anew        10 min'
 	@echo '  make dist                           the same, into dist/                  10 min'
 	@echo '  make compare                        every comparison at its full count    hours'
-	@echo '  make bench                          instructions, beside the original     5 min'
-	@echo '  make record                         the original'\''s answers, anew         a minute'
+	@echo '  make bench                          instructions, beside the original     a minute'
+	@echo '  make record                         the original'\''s answers, anew          a minute'
 
 preview:
 	@host/host.sh preview "$(FILE)"
