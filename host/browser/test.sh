@@ -2,15 +2,10 @@
 # Tests the pages that ox writes, in a real browser: host/browser/test.sh CHROMIUM OX.. where CHROMIUM is the command that browser_ready sets
 # and OX.. the words that run ox. Its last line tells how many checks passed and failed. RECORDS: how many records the large page has, else 20,000.
 set -u
-here=$(cd "$(dirname "$0")" && pwd -P)
-root=$(cd "$here/../.." && pwd -P)
+. "$(dirname "$0")/../among_samples.sh"
 chromium=$1
 shift
 run=$*
-work=$(mktemp -d)
-trap 'rm -rf "$work"' EXIT
-ln -s "$root/samples" "$work/samples"
-cd "$work" || exit 1
 records=${RECORDS:-20000}
 
 # shellcheck disable=SC2086

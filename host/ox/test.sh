@@ -2,15 +2,10 @@
 # Tests the tool that host.sh built: host/ox/test.sh FOLDER [EMULATOR]. A session holds commands, each behind `$ `, with what they print,
 # both outputs together, and the exit status where it is not 0. With RECORD=1 the sessions are stored as they came out.
 set -u
-here=$(cd "$(dirname "$0")" && pwd -P)
-root=$(cd "$here/../.." && pwd -P)
+. "$(dirname "$0")/../among_samples.sh"
 programs=$1
 shift
 run=$*
-work=$(mktemp -d)
-trap 'rm -rf "$work"' EXIT
-ln -s "$root/samples" "$work/samples"
-cd "$work" || exit 1
 tested=ox
 . "$here/../counted.sh"
 # pages are made at one time, and no list is always the same
