@@ -9,6 +9,7 @@ use lib.ListN.{length}
 use lib.Dec.{ltb, lit<, eqb}
 use borrow.Author.Tests.{ltb-true, lt-ltb, le-leb, ne-eqb}
 use Rattle.text.specs.Pick.{pick}
+use Rattle.text.proofs.AppendLaws.{Ascii}
 use Rattle.decimal.specs.Decimal.{allDigits, number, digitsAfter, digitsOf, leads, unsignedOf}
 use Rattle.decimal.specs.Digits.{digits, decimal}
 use Rattle.decimal.specs.declared.Unsigned.the-variants.{Is}
@@ -38,6 +39,10 @@ are-digits (suc k) n = by (ltb n 10) refl (are-digits k (n / 10))
     by : (t : Bool) → ltb n 10 ≡ t → Digits (digits k (n / 10)) → Digits (pick t ((0x30 + n) ∷ []) (digits k (n / 10) ++ ((0x30 + n % 10) ∷ [])))
     by true e i = ((omega arith, omega (arith, ltb-true n 10 e)), tt)
     by false e i = digits-append (digits k (n / 10)) _ i ((omega arith, omega arith), tt)
+
+pub digits-ascii : (xs : List ℕ) → Digits xs → Ascii xs
+digits-ascii [] d = tt
+digits-ascii (x ∷ xs) d = (omega (arith, d .0 .1), digits-ascii xs (d .1))
 
 pub number-is : (k n : ℕ) → n < 10 ^ k → number 0 (digits k n) ≡ n
 unfolding digits

@@ -4,16 +4,19 @@ use mathlib.Core.Path.{_≡_, refl, sym, ap, _∙_, subst}
 use mathlib.Core.Logic.{inl, inr}
 use mathlib.Core.Bool.{Bool, true, false, true≢false}
 use Prim.Native.Nat.{ℕ, _+_, _-_, _*_, _/_, _^_, _≤_, _<_, min}
-use native.Mathlib.Nat.{le-trans, le-of-eq, le-antisymm, le-of-suc-le-suc, lt-of-le-of-lt, lt-of-lt-of-le, add-mul, suc-mul, one-mul, mul-left-comm, mul-right-comm, mul-le-mul-right, le-of-mul-le-mul-right, mul-pos, eq-zero-or-pos, zero-lt-suc, le-div-iff-mul-le, div-lt-iff-lt-mul}
+use native.Mathlib.Nat.{le-trans, le-of-eq, le-antisymm, le-of-suc-le-suc, lt-of-le-of-lt, lt-of-lt-of-le, add-mul, suc-mul, one-mul, mul-comm, mul-left-comm, mul-right-comm, mul-mul-mul-comm, mul-le-mul-right, le-of-mul-le-mul-right, mul-pos, eq-zero-or-pos, zero-lt-suc, le-div-iff-mul-le, div-lt-iff-lt-mul}
 use native.Mathlib.Omega.{arith}
 use lib.Dec.{T, ltb, ltb→lt, lit≤, lit<}
 use lib.Pow.{pow-pos}
 use lib.Ieee.{Float, nan, inf, fin, binary64, up, down, round, mul, lt}
+use lib.Ieee.Fits.{down-pos}
 use lib.Ieee.Exact.{HasValue}
+use lib.Ieee.Nearest.{div-same}
 use lib.Ieee.Scale.{grid, round-val}
 use Rattle.hertz.specs.Value.{parsed}
 use Rattle.hertz.specs.Whole.{million, rounded, toHz, belowZero}
-use Rattle.hertz.proofs.ValueLaws.{mul-value, rounded-value, parsed-six}
+use Rattle.hertz.specs.Theorems.{ThereAndBack}
+use Rattle.hertz.proofs.ValueLaws.{mul-value, parsed-six}
 use Rattle.hertz.proofs.Near.{Near, near}
 
 -- ---- the numbers: one part in 2 ^ 52 of less than 2 ^ 41 * l is less than one in 2 ^ 11 of l
@@ -52,6 +55,23 @@ cancel-hi h m l L p = le-of-mul-le-mul-right
 cancel-lo : (h m l : ℕ) → 0 < l → m * l * 4503599627370496 ≤ h * l * 4503599627370496 + m * l → m * 4503599627370496 ≤ h * 4503599627370496 + m
 cancel-lo h m l L p = le-of-mul-le-mul-right
     (le-trans (le-of-eq (mul-right-comm m 4503599627370496 l)) (le-trans p (le-of-eq (sym (add-mul (h * 4503599627370496) m l ∙ ap (λ (x : ℕ). x + m * l) (mul-right-comm h 4503599627370496 l)))))) L
+
+-- ---- what `rounded` is of a fraction
+pub rounded-value : (x : Float) (a c : ℕ) → 0 < c → HasValue x false a c → rounded x ≡ min ((2 * a + c) / (2 * c)) (2 ^ 64 - 1)
+unfolding rounded
+rounded-value nan a c C h = absurd h
+rounded-value (inf s) a c C h = absurd h
+rounded-value (fin true m e) a c C h = absurd (true≢false (h .0))
+rounded-value (fin false m e) a c C h =
+    ap (λ (z : ℕ). min z (2 ^ 64 - 1))
+    (div-same (2 * (m * up e) + down e) (2 * down e) (2 * a + c) (2 * c) (mul-pos (zero-lt-suc 1) (down-pos e)) (mul-pos (zero-lt-suc 1) C) (cross (m * up e) (down e) (h .1)))
+  where
+    cross : (p q : ℕ) → p * c ≡ a * q → (2 * p + q) * (2 * c) ≡ (2 * a + c) * (2 * q)
+    cross p q h =
+        add-mul (2 * p) q (2 * c)
+        ∙ ap (λ (z : ℕ). z + q * (2 * c)) (mul-mul-mul-comm 2 p 2 c ∙ ap (λ (z : ℕ). 4 * z) h ∙ mul-mul-mul-comm 2 2 a q)
+        ∙ ap (λ (z : ℕ). 2 * a * (2 * q) + z) (mul-left-comm q 2 c ∙ ap (λ (z : ℕ). 2 * z) (mul-comm q c) ∙ mul-left-comm 2 c q)
+        ∙ sym (add-mul (2 * a) c (2 * q))
 
 -- ---- h / l to the nearest whole number
 whole-part : (n l h : ℕ) → 0 < l → 2 * (n * l) ≤ 2 * h + l → 2 * h + l < 2 * (n * l) + 2 * l → (2 * h + l) / (2 * l) ≡ n
@@ -136,7 +156,7 @@ back-zero : toHz (parsed 0 0 6) ≡ 0
 unfolding toHz parsed mul rounded round
 back-zero = refl
 
-pub back : (n : ℕ) → n ≤ 10 ^ 12 → toHz (parsed n 0 6) ≡ n
+pub back : ThereAndBack
 back n h = elim (eq-zero-or-pos n) [ inl z ↦ subst (λ (x : ℕ). toHz (parsed x 0 6) ≡ x) (sym z) back-zero | inr p ↦ back-pos n p h ]
 
 -- ---- and it is not below zero

@@ -14,7 +14,7 @@ use lib.Ieee.Exact.{HasValue, odd-sign}
 use lib.Ieee.Order.{le-of-values}
 use lib.Ieee.Positive.{num, den, positive, above, above-of-le, den-pos, value→cross, between, le→cross}
 use Rattle.hertz.specs.Whole.{rounded}
-use Rattle.hertz.proofs.ValueLaws.{rounded-value}
+use Rattle.hertz.proofs.Back.{rounded-value}
 
 -- 2 ^ w
 abbrev pub two-to : ℕ → Float

@@ -1,6 +1,6 @@
 pub mod ValueLaws
 pub mod Near
-pub mod Bits
 pub mod Back
+pub mod Bits
 pub mod Written
 pub mod Determined

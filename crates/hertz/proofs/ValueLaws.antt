@@ -1,9 +1,9 @@
 -- Products and quotients of binary64 numbers by the fractions that they equal: in the exact window the one product or quotient is the
--- correctly rounded value of the decimal. And what `rounded` is of a fraction. Assumes nothing.
+-- correctly rounded value of the decimal. Assumes nothing.
 use mathlib.Core.Path.{_≡_, refl, sym, ap, _∙_, subst}
 use mathlib.Core.Bool.{Bool, true, false, cond, true≢false}
-use Prim.Native.Nat.{ℕ, zero, suc, _+_, _-_, _*_, _/_, _^_, _≤_, _<_, min}
-use native.Mathlib.Nat.{zero-lt-suc, zero-mul, lt-irrefl, mul-one, mul-pos, mul-comm, mul-assoc, mul-left-comm, mul-mul-mul-comm, pow-succ', add-mul, le-of-lt}
+use Prim.Native.Nat.{ℕ, zero, suc, _+_, _-_, _*_, _^_, _≤_, _<_}
+use native.Mathlib.Nat.{zero-lt-suc, zero-mul, lt-irrefl, mul-one, mul-pos, mul-comm, mul-assoc, mul-left-comm, mul-mul-mul-comm, pow-succ', le-of-lt}
 use lib.IntN.{ℤ, pos}
 use lib.Dec.{T, eqb, eqb→eq}
 use native.Mathlib.Omega.{arith}
@@ -13,9 +13,8 @@ use lib.Ieee.Fits.{up-pos, down-pos}
 use lib.Ieee.Exact.{HasValue}
 use lib.Ieee.Back.{round-whole}
 use lib.Ieee.Scale.{round-same}
-use lib.Ieee.Nearest.{div-same}
 use Rattle.hertz.specs.Value.{tenTo, parsed}
-use Rattle.hertz.specs.Whole.{zero as zero-float, rounded}
+use Rattle.hertz.specs.Whole.{zero as zero-float}
 
 -- ---- a product and a quotient, by any fractions a / c and b / d that the two equal
 pub mul-value : (f : Format) (x y : Float) (a c b d : ℕ) → 0 < c → 0 < d → HasValue x false a c → HasValue y false b d → mul f x y ≡ round f false (a * b) (c * d)
@@ -122,20 +121,3 @@ parsed-zero up down =
   where
     go : (u d : ℕ) → 0 * u * 1 ≡ 0 * d
     go u d = omega arith
-
--- ---- what `rounded` is of a fraction
-pub rounded-value : (x : Float) (a c : ℕ) → 0 < c → HasValue x false a c → rounded x ≡ min ((2 * a + c) / (2 * c)) (2 ^ 64 - 1)
-unfolding rounded
-rounded-value nan a c C h = absurd h
-rounded-value (inf s) a c C h = absurd h
-rounded-value (fin true m e) a c C h = absurd (true≢false (h .0))
-rounded-value (fin false m e) a c C h =
-    ap (λ (z : ℕ). min z (2 ^ 64 - 1))
-    (div-same (2 * (m * up e) + down e) (2 * down e) (2 * a + c) (2 * c) (mul-pos (zero-lt-suc 1) (down-pos e)) (mul-pos (zero-lt-suc 1) C) (cross (m * up e) (down e) (h .1)))
-  where
-    cross : (p q : ℕ) → p * c ≡ a * q → (2 * p + q) * (2 * c) ≡ (2 * a + c) * (2 * q)
-    cross p q h =
-        add-mul (2 * p) q (2 * c)
-        ∙ ap (λ (z : ℕ). z + q * (2 * c)) (mul-mul-mul-comm 2 p 2 c ∙ ap (λ (z : ℕ). 4 * z) h ∙ mul-mul-mul-comm 2 2 a q)
-        ∙ ap (λ (z : ℕ). 2 * a * (2 * q) + z) (mul-left-comm q 2 c ∙ ap (λ (z : ℕ). 2 * z) (mul-comm q c) ∙ mul-left-comm 2 c q)
-        ∙ sym (add-mul (2 * a) c (2 * q))

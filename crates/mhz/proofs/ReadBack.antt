@@ -3,28 +3,31 @@ use mathlib.Core.Path.{_≡_, refl, sym, ap, _∙_, subst}
 use mathlib.Core.Bool.{Bool, true, false}
 use mathlib.Core.List.{List, [], _∷_, _++_, append-nil, append-assoc, reverse, reverse-append}
 use Prim.Native.Nat.{ℕ, zero, suc, _+_, _-_, _*_, _/_, _%_, _^_, _≤_, _<_}
-use native.Mathlib.Nat.{mul-assoc, pow-suc, div-lt-iff-lt-mul, div-add-mod', mod-lt, le-trans}
+use native.Mathlib.Nat.{mul-assoc, pow-suc, div-lt-iff-lt-mul, div-add-mod', mod-lt, le-trans, lt-of-le-of-lt}
 use native.Mathlib.Omega.{arith}
-use lib.ListN.{length, getD}
-use lib.Seq.{take-all}
+use lib.ListN.{length, getD, take, drop}
+use lib.Seq.{take-all, sets, sets-eq, take-at, drop-at, length-take-le}
 use lib.Dec.{eqb, lit<, lit≤}
-use borrow.Author.Tests.{le-leb, ne-eqb}
+use borrow.Author.Tests.{le-leb, lt-leb, ne-eqb}
 use Rattle.text.specs.Pick.{either, within}
 use Rattle.text.specs.Space.{spaceLen, spaceBack, trimStart, trimEnd, trimmed}
 use Rattle.text.proofs.Walks.{stops}
 use Rattle.text.proofs.SpaceLaws.{plain-front, plain-back}
 use Rattle.decimal.specs.Decimal.{number}
 use Rattle.decimal.specs.Digits.{digits, decimal}
-use Rattle.decimal.proofs.ReadBack.{Digits, digits-append, are-digits, number-append, number-is, some-digit}
+use Rattle.decimal.proofs.ReadBack.{Digits, are-digits, number-append, number-is, some-digit}
 use Rattle.hertz.specs.Value.{signed}
 use Rattle.hertz.proofs.Back.{back, not-negative}
 use Rattle.mhz.specs.Digits.{isDigit, digitsOf, afterDigits, numberOf, lastDigits}
 use Rattle.mhz.specs.Number.{decimal as decimalNumber, negative, unsigned, pointed, wholePart, fractionPart, afterDecimal, decimalOf, numberIn}
 use Rattle.mhz.specs.Reading.{up, down, near, inWindow, hertzOf, decimalHertz, numberHertz, readHertz}
-use Rattle.mhz.specs.Writing.{sixDecimals, mhzText}
+use Rattle.mhz.specs.Writing.{sixDecimals, mhzText, formatted, answerTo, Written}
+use Rattle.mhz.specs.Theorems.{ReadBack, Carried}
 use Rattle.mhz.specs.declared.Hz.the-variants.{Is}
+use Rattle.mhz.specs.declared.Wrote.the-variants.{End}
+use Rattle.mhz.proofs.Formatted.{formatted-is}
 use Rattle.mhz.proofs.TextLaws.{below-words}
-use Rattle.mhz.proofs.WriteLaws.{length-last}
+use Rattle.mhz.proofs.WriteLaws.{length-last, last-digits}
 
 -- ---- digits, and what follows them
 is-digit : (b : ℕ) → 0x30 ≤ b → b ≤ 0x39 → isDigit b ≡ true
@@ -43,10 +46,6 @@ digits-all ds p = ap digitsOf (sym (append-nil ds)) ∙ digits-then ds [] p refl
 
 after-all : (ds : List ℕ) → Digits ds → afterDigits ds ≡ []
 after-all ds p = ap afterDigits (sym (append-nil ds)) ∙ after-then ds [] p refl
-
-last-digits : (k n : ℕ) → Digits (lastDigits k n)
-last-digits zero n = tt
-last-digits (suc k) n = digits-append (lastDigits k (n / 10)) ((0x30 + n % 10) ∷ []) (last-digits k (n / 10)) ((omega arith, omega arith), tt)
 
 -- the last k digits of a number below 10 ^ k stand for it
 number-last : (k n a : ℕ) → n < 10 ^ k → number a (lastDigits k n) ≡ a * 10 ^ k + n
@@ -183,6 +182,29 @@ module _ (hz : ℕ) (most : hz ≤ 10 ^ 12) where
   unfolding decimalHertz hertzOf signed up down
   hertz-back = rw inside (rw (not-negative hz most) (ap Is (back hz most)))
 
-pub read-back : (hz : ℕ) → hz ≤ 10 ^ 12 → readHertz (mhzText hz) ≡ Is hz
+pub read-back : ReadBack mhzText
 unfolding readHertz sixDecimals text whole six
 read-back hz h = ap (λ (xs : List ℕ). numberHertz (numberIn xs)) (text-trimmed hz h) ∙ ap numberHertz (text-number hz h) ∙ hertz-back hz h
+
+pub rust-back : ReadBack formatted
+rust-back hz h = ap readHertz (sym (formatted-is hz (lt-of-le-of-lt h (lit< tt)))) ∙ read-back hz h
+
+-- ---- the bytes that were written
+module _ (hz at : ℕ) (was : List ℕ) (room : at + length (mhzText hz) ≤ length was) where
+  abbrev behind : List ℕ
+  behind = drop (at + length (mhzText hz)) was
+
+  set-there : take (length (mhzText hz)) (drop at (sets was at (mhzText hz))) ≡ mhzText hz
+  set-there =
+      rw (sets-eq (mhzText hz) was at room, append-assoc (take at was) (mhzText hz) behind, drop-at (take at was) (mhzText hz ++ behind) at (length-take-le at was (omega arith)))
+      (take-at (mhzText hz) behind (length (mhzText hz)) refl)
+
+  has-room : hz < 8589934592000000 → answerTo hz at was ≡ End (at + length (mhzText hz))
+  unfolding answerTo
+  has-room low = rw (lt-leb 8589934592000000 hz low, le-leb (at + length (mhzText hz)) (length was) room) refl
+
+pub carried : Carried
+carried hz at was now wrote read h room w r =
+    let fits : answerTo hz at was ≡ End (at + length (mhzText hz)) = has-room hz at was room (lt-of-le-of-lt h (lit< tt)) in
+    let there : now ≡ sets was at (mhzText hz) = w .output ∙ rw fits refl in
+    (w .answer ∙ fits, r ∙ ap readHertz (rw there (set-there hz at was room)) ∙ read-back hz h)

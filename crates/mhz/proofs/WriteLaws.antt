@@ -1,15 +1,19 @@
 -- Megahertz written into a lent output. Assumes nothing.
 use mathlib.Core.Path.{_≡_, refl, sym, ap, _∙_}
 use mathlib.Core.List.{List, [], _∷_, _++_}
-use Prim.Native.Nat.{ℕ, zero, suc, _+_, _-_, _/_, _%_, _≤_, _<_}
+use Prim.Native.Nat.{ℕ, zero, suc, _+_, _-_, _/_, _%_, _^_, _≤_, _<_}
 use native.Mathlib.Nat.{not-suc-le-zero}
 use native.Mathlib.Numerals.{sub-one}
 use native.Mathlib.Omega.{arith}
 use lib.ListN.{length, set, length-append}
 use lib.Seq.{sets, set-comm}
 use borrow.Author.Tests.{le-leb, lt-leb}
-use Rattle.decimal.specs.Digits.{decimal}
+use Rattle.text.specs.Utf8.{Utf8}
+use Rattle.text.proofs.AppendLaws.{utf8-append, utf8-ascii}
+use Rattle.decimal.specs.Digits.{digits, decimal}
+use Rattle.decimal.proofs.ReadBack.{Digits, digits-append, are-digits, digits-ascii}
 use Rattle.output.specs.Put.{Put, Room}
+use Rattle.output.proofs.DigitLaws.{short-digits}
 use Rattle.output.proofs.PutLaws.{put-then, room-first, room-next}
 use Rattle.mhz.specs.Digits.{lastDigits}
 use Rattle.mhz.specs.Writing.{sixDecimals, mhzText, answerTo, Written}
@@ -19,6 +23,10 @@ use Rattle.mhz.specs.declared.Wrote.the-variants.{End, TooHigh, Short}
 pub length-last : (k n : ℕ) → length (lastDigits k n) ≡ k
 length-last zero n = refl
 length-last (suc k) n = length-append (lastDigits k (n / 10)) ((0x30 + n % 10) ∷ []) ∙ ap (λ (z : ℕ). z + 1) (length-last k (n / 10)) ∙ omega arith
+
+pub last-digits : (k n : ℕ) → Digits (lastDigits k n)
+last-digits zero n = tt
+last-digits (suc k) n = digits-append (lastDigits k (n / 10)) ((0x30 + n % 10) ∷ []) (last-digits k (n / 10)) ((omega arith, omega arith), tt)
 
 -- a store past what is set comes first or last
 store-past : (l : List ℕ) (i : ℕ) (vs : List ℕ) (p d : ℕ) → i + length vs ≤ p → sets (set l p d) i vs ≡ set (sets l i vs) p d
@@ -61,6 +69,22 @@ room-last l at k n h = omega (arith, h, length-last k n)
 pub size-is : (hz r : ℕ) → r ≡ length (decimal (hz / 1000000)) → r + 7 ≡ length (mhzText hz)
 unfolding sixDecimals
 size-is hz r e = omega (arith, e, length-append (decimal (hz / 1000000)) (0x2E ∷ lastDigits 6 (hz % 1000000)))
+
+-- no more than 1000000.000000 takes
+pub mhz-short : (hz : ℕ) → hz ≤ 10 ^ 12 → length (mhzText hz) ≤ 14
+unfolding decimal
+mhz-short hz h = omega (arith, size-is hz _ refl, short-digits 6 20 (hz / 1000000) (below hz h))
+  where
+    below : (n : ℕ) → n ≤ 1000000000000 → n / 1000000 < 10000000
+    below n h = omega arith
+
+pub mhz-utf8 : (hz : ℕ) → Utf8 (mhzText hz)
+unfolding sixDecimals decimal
+mhz-utf8 hz =
+    let whole : List ℕ = digits 20 (hz / 1000000) in
+    let six : List ℕ = lastDigits 6 (hz % 1000000) in
+    utf8-append whole (0x2E ∷ six) (utf8-ascii whole (digits-ascii whole (are-digits 20 (hz / 1000000))))
+    (utf8-ascii (0x2E ∷ six) (omega arith, digits-ascii six (last-digits 6 (hz % 1000000))))
 
 -- the room for each part, and the parts together
 module _ (was : List ℕ) (at hz : ℕ) (h : Room was at (mhzText hz)) where

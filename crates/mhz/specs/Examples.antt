@@ -85,3 +85,9 @@ written = (refl, refl)
 refused : (answerTo 8589934592000000 0 [] ≡ TooHigh) × (answerTo 5 1 (0 ∷ 0 ∷ 0 ∷ 0 ∷ 0 ∷ 0 ∷ 0 ∷ 0 ∷ []) ≡ Short) × (answerTo 5 0 (0 ∷ 0 ∷ 0 ∷ 0 ∷ 0 ∷ 0 ∷ 0 ∷ 0 ∷ []) ≡ End 8)
 unfolding answerTo sixDecimals ten-digits digits
 refused = (refl, refl, refl)
+
+-- ---- there and back
+-- 4,294,967,296,000,010 Hz, which is 2 ^ 32 MHz and 10 Hz, is read as it was written; the next is not, and no theorem can reach so far
+drifts : (readHertz (mhzText 4294967296000010) ≡ Is 4294967296000010) × (readHertz (mhzText 4294967296000011) ≡ Is 4294967296000012)
+unfolding readHertz trimmed trimStart trimEnd spaceLen spaceBack width space1 space2 space3 space80 lead numberIn unsignedNumber isInfinity isNan sameRaised raised decimalOf wholePart fractionPart afterDecimal pointed unsigned negative allDigits numberOf decimalHertz inWindow near up down hertzOf signed parsed belowZero toHz round mul lt rounded sixDecimals ten-digits digits
+drifts = (refl, refl)

@@ -4,4 +4,5 @@ pub mod Grammar
 pub mod Reading
 pub mod Steps
 pub mod Writing
+pub mod Theorems
 pub mod Examples

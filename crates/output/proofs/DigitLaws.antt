@@ -1,12 +1,13 @@
 -- Digits put one after the other, and how many there are. Assumes nothing.
-use mathlib.Core.Path.{_≡_, refl}
+use mathlib.Core.Path.{_≡_, refl, subst}
 use mathlib.Core.Bool.{Bool, true, false}
 use mathlib.Core.List.{List, [], _∷_, _++_}
-use Prim.Native.Nat.{ℕ, zero, suc, _+_, _-_, _/_, _%_, _≤_, _<_}
+use Prim.Native.Nat.{ℕ, zero, suc, _+_, _-_, _/_, _%_, _^_, _≤_, _<_}
+use native.Mathlib.Nat.{pow-suc, div-lt-iff-lt-mul}
 use native.Mathlib.Numerals.{sub-one}
 use native.Mathlib.Omega.{arith}
 use lib.ListN.{length, length-append}
-use lib.Dec.{ltb}
+use lib.Dec.{ltb, lit<}
 use borrow.Author.Tests.{lt-ltb, le-ltb}
 use Rattle.text.specs.Pick.{pick}
 use Rattle.decimal.specs.Digits.{digits, decimal}
@@ -59,6 +60,17 @@ few-digits (suc k) n = by (ltb n 10) (few-digits k (n / 10))
     by : (t : Bool) → length (digits k (n / 10)) ≤ k → length (pick t ((0x30 + n) ∷ []) (digits k (n / 10) ++ ((0x30 + n % 10) ∷ []))) ≤ suc k
     by true i = omega arith
     by false i = omega (arith, length-append (digits k (n / 10)) ((0x30 + n % 10) ∷ []))
+
+-- a number below 10 ^ (k + 1) has at most k + 1 of them
+pub short-digits : (k j n : ℕ) → n < 10 ^ suc k → length (digits j n) ≤ suc k
+unfolding digits
+short-digits k zero n h = omega arith
+short-digits zero (suc j) n h = rw (lt-ltb n 10 h) (omega arith)
+short-digits (suc k) (suc j) n h = by (ltb n 10) (short-digits k j (n / 10) (div-lt-iff-lt-mul (lit< tt) .1 (subst (λ (z : ℕ). n < z) (pow-suc 10 (suc k)) h)))
+  where
+    by : (t : Bool) → length (digits j (n / 10)) ≤ suc k → length (pick t ((0x30 + n) ∷ []) (digits j (n / 10) ++ ((0x30 + n % 10) ∷ []))) ≤ suc (suc k)
+    by true i = omega arith
+    by false i = omega (arith, length-append (digits j (n / 10)) ((0x30 + n % 10) ∷ []))
 
 pub few-decimals : (n d : ℕ) → d ≡ length (decimal n) → d ≤ 20
 unfolding decimal

@@ -1,2 +1,3 @@
 pub mod FrequencyAnswers
 pub mod Determined
+pub mod Survives

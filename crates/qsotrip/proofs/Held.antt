@@ -4,24 +4,22 @@ use mathlib.Core.Path.{_≡_, refl, sym, _∙_}
 use mathlib.Core.Bool.{Bool, true, false}
 use mathlib.Core.List.{List, [], _∷_}
 use mathlib.Core.Option.{Option, none, some}
-use Prim.Native.Nat.{ℕ, zero, suc, _+_, _/_, _%_, _≤_, _<_}
+use Prim.Native.Nat.{ℕ, zero, suc, _+_, _/_, _≤_, _<_}
 use native.Mathlib.Omega.{arith}
 use lib.IntN.{ℤ, pos, negsuc}
 use lib.Dec.{eqb, leb, ltb}
-use lib.ListN.{length, take, drop, length-map, length-append, length-take, length-drop}
+use lib.ListN.{length, take, drop, length-map, length-take, length-drop}
 use borrow.Author.Tests.{ltb-true}
 use Rattle.text.specs.Pick.{pick, both, either}
 use Rattle.text.specs.Utf8.{charLen, longChar, second3, second4, validUpTo, utf8, Utf8}
 use Rattle.text.specs.Walk.{lead}
-use Rattle.text.proofs.AppendLaws.{Ascii, utf8-append, utf8-ascii}
+use Rattle.text.proofs.AppendLaws.{utf8-ascii}
 use Rattle.text.proofs.BoolLaws.{both-left, both-right}
 use Rattle.letters.specs.Capitals.{raised, capitals}
 use Rattle.decimal.specs.Digits.{decimal}
-use Rattle.decimal.proofs.ReadBack.{Digits, digits-append}
 use Rattle.output.proofs.DigitLaws.{decimal-few}
-use Rattle.mhz.specs.Digits.{lastDigits}
-use Rattle.mhz.specs.Writing.{sixDecimals, mhzText}
-use Rattle.mhz.proofs.WriteLaws.{length-last}
+use Rattle.mhz.specs.Writing.{mhzText}
+use Rattle.mhz.proofs.WriteLaws.{size-is, mhz-utf8}
 use Rattle.tables.specs.Table.{entry}
 use Rattle.tables.specs.Bands.{bands, bandNames}
 use Rattle.tables.specs.Modes.{modes, modeNames}
@@ -113,22 +111,8 @@ module _ (text : List ℕ) (small : length text ≤ 16777216) where
       by false false false false h = tt
 
 -- ---- numbers
-digits-ascii : (xs : List ℕ) → Digits xs → Ascii xs
-digits-ascii [] d = tt
-digits-ascii (x ∷ xs) d = (omega (arith, d .0 .1), digits-ascii xs (d .1))
-
-last-digits : (k n : ℕ) → Digits (lastDigits k n)
-last-digits zero n = tt
-last-digits (suc k) n = digits-append (lastDigits k (n / 10)) ((0x30 + n % 10) ∷ []) (last-digits k (n / 10)) ((omega arith, omega arith), tt)
-
 mhz-held : (hz : ℕ) → Held (some (mhzText hz))
-unfolding sixDecimals
-mhz-held hz =
-    let six : List ℕ = lastDigits 6 (hz % 1000000) in (
-      utf8-append (decimal (hz / 1000000)) (0x2E ∷ six) (utf8-ascii (decimal (hz / 1000000)) (decimal-ascii (hz / 1000000)))
-          (utf8-ascii (0x2E ∷ six) (omega arith, digits-ascii six (last-digits 6 (hz % 1000000)))),
-      omega (arith, length-append (decimal (hz / 1000000)) (0x2E ∷ six), decimal-few (hz / 1000000), length-last 6 (hz % 1000000)),
-    )
+mhz-held hz = (mhz-utf8 hz, omega (arith, size-is hz _ refl, decimal-few (hz / 1000000)))
 
 megahertz-held : (f : Option ℕ) → Held (megahertz f)
 megahertz-held none = tt

@@ -107,7 +107,7 @@ entity-back (some (negsuc n)) h = rw (below-read n h) refl
 pub hertz-survives : (hz : ℕ) → hz ≤ 10 ^ 12 → Survives (some hz)
 hertz-survives hz h = hertz-back hz h
 
-frequency-back : (f : Option ℕ) → Survives f → frequencyRead (megahertz f) ≡ f
+pub frequency-back : (f : Option ℕ) → Survives f → frequencyRead (megahertz f) ≡ f
 frequency-back none s = refl
 frequency-back (some hz) s = ap hertzRead s
 

@@ -8,4 +8,5 @@ pub mod Lasting
 pub mod Written
 pub mod Rows
 pub mod Trip
+pub mod Frequencies
 pub mod Determined

@@ -26,7 +26,7 @@ use Rattle.mapping.specs.Contact.{columnValue, contactOf}
 use Rattle.mapping.specs.Mapping.{extraRows, mapped, mappedTo}
 use Rattle.qsowriter.specs.Record.{recordOf}
 use Rattle.qsowriter.specs.Writing.{contactWith, qsoText, qsoVerdict}
-use Rattle.qsotrip.specs.Rewritten.{Each, NoColumn, Rewritten, readBack, Lasting}
+use Rattle.qsotrip.specs.Rewritten.{Each, NoColumn, Rewritten, readBack, Survives, Lasting}
 use Rattle.qsotrip.proofs.Accepted.{extra-rises, qso-writable}
 use Rattle.qsotrip.proofs.Mapped.{its-freq, its-freq-rx, contact-back, rewritten}
 use Rattle.qsotrip.proofs.Lasting.{lasting-back}
@@ -115,9 +115,9 @@ module _ (text : List ℕ) (q : Qso) (table : List ℕ) (count : ℕ) (ok : qsoV
     pub rows-mean : contact text′ (qsoOf text′ rows′) (saidBy text′ (extraRows text′ rows′)) ≡ readBack said
     rows-mean = qso-means text′ rows′ ∙ ap contactOf is ∙ mapped-again
 
-    pub rows-mapped : Lasting said → mapped text′ rows′ ≡ accepted (qsoOf text′ rows′)
-    rows-mapped l =
-        mapped-accepted text′ rows′ (said .freq) (said .freqRx) (l .freq) (l .freqRx) (ap (columnValue Columns.freq) is ∙ its-freq said rising apart)
+    pub rows-mapped : Survives (said .freq) → Survives (said .freqRx) → mapped text′ rows′ ≡ accepted (qsoOf text′ rows′)
+    rows-mapped f g =
+        mapped-accepted text′ rows′ (said .freq) (said .freqRx) f g (ap (columnValue Columns.freq) is ∙ its-freq said rising apart)
         (ap (columnValue Columns.freqRx) is ∙ its-freq-rx said rising apart)
 
     pub rows-same : Lasting said → contact text′ (qsoOf text′ rows′) (saidBy text′ (extraRows text′ rows′)) ≡ said
@@ -144,8 +144,11 @@ module _ (text : List ℕ) (q : Qso) (table : List ℕ) (count : ℕ) (ok : qsoV
     abbrev pub again : List Row
     again = rowsOf (tableAfter s lent) (length fields)
 
+    pub round-tuned : Survives (said .freq) → Survives (said .freqRx) → mapped s again ≡ accepted (qsoOf s again)
+    round-tuned f g = rows-mapped s again rows-read f g
+
     pub round-mapped : Lasting said → mapped s again ≡ accepted (qsoOf s again)
-    round-mapped l = rows-mapped s again rows-read l
+    round-mapped l = round-tuned (l .freq) (l .freqRx)
 
     pub round-same : Lasting said → contact s (qsoOf s again) (saidBy s (extraRows s again)) ≡ said
     round-same l = rows-same s again rows-read l

@@ -16,7 +16,7 @@ use Rattle.text.proofs.BoolLaws.{both-no}
 use Rattle.decimal.specs.Decimal.{unsignedOf}
 use Rattle.decimal.specs.Digits.{decimal}
 use Rattle.decimal.specs.declared.Unsigned.the-variants.{Is}
-use Rattle.decimal.proofs.ReadBack.{Digits, are-digits, read-back}
+use Rattle.decimal.proofs.ReadBack.{Digits, are-digits, digits-ascii, read-back}
 use Rattle.tags.specs.Tags.{gt, colon}
 use Rattle.adif.specs.Grammar.{Without}
 
@@ -66,10 +66,6 @@ trim-digits xs d = simp (no-front xs d, no-back (reverse xs) (turned xs [] d tt)
 digits-without : (b : ℕ) (xs : List ℕ) → 0x39 < b → Digits xs → Without b xs
 digits-without b [] h d = tt
 digits-without b (x ∷ xs) h d = ((λ e. omega (arith, d .0 .1)), digits-without b xs h (d .1))
-
-digits-ascii : (xs : List ℕ) → Digits xs → Ascii xs
-digits-ascii [] d = tt
-digits-ascii (x ∷ xs) d = (omega (arith, d .0 .1), digits-ascii xs (d .1))
 
 module _ (n : ℕ) where
   pub decimal-digits : Digits (decimal n)
