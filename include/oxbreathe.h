@@ -318,10 +318,13 @@ typedef struct ox_frequency {
  */
 ox_frequency ox_mhz_to_hz(const char *mhz, size_t length);
 
-/* Writes a frequency as megahertz with six decimals; 17 bytes are always enough. Refuses: 14, 13.
+/* Writes a frequency as megahertz with six decimals; 17 bytes are always enough. Refuses: 14, 13. What it writes of up to
+ * 10^12 Hz, at most 14 bytes, is read by ox_mhz_to_hz as the same number.
  *
  *     char mhz[17];
  *     assert(ox_hz_to_mhz(7150000, mhz, sizeof mhz).length == 8 && memcmp(mhz, "7.150000", 8) == 0);
+ *     size_t length = ox_hz_to_mhz(14097087, mhz, sizeof mhz).length;
+ *     assert(ox_mhz_to_hz(mhz, length).hz == 14097087);
  */
 ox_written ox_hz_to_mhz(uint64_t hz, char *out, size_t room);
 

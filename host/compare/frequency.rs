@@ -1,7 +1,7 @@
 //! The crate `mhz` against the original, or where its sources are not at hand against std's f64, each field of each
 //! answer; and the Rust wrapper over it.
 
-use crate::generate::{Placed, Random, WHITE, bytes, damage, every};
+use crate::generate::{Placed, Random, WHITE, around, bounds, bytes, damage, every};
 use crate::harness::{Group, Run};
 use crate::rust;
 #[cfg(not(original))]
@@ -9,7 +9,7 @@ use crate::rust::{hertz as mhz_string_to_hz, megahertz as hz_to_mhz_string};
 #[cfg(original)]
 use original::adif::{hz_to_mhz_string, mhz_string_to_hz};
 use oxbreathe::sys::{self, Frequency, Written};
-use oxbreathe::{LONGEST, frequency};
+use oxbreathe::{LONGEST, frequency, normalize};
 
 pub fn run(run: &mut Run) {
     run.group("mhz/short", short);
@@ -19,6 +19,7 @@ pub fn run(run: &mut Run) {
     run.group("mhz/decimals", decimals);
     run.group("mhz/halves", halves);
     run.group("mhz/write", write);
+    run.group("mhz/survive", survive);
     run.group("mhz/texts", texts);
     run.group("mhz/wrapper", wrapper);
 }
@@ -229,6 +230,43 @@ fn write(g: &mut Group) {
         let hz = g.random.number() % most;
         same_written(g, hz, 32);
     }
+}
+
+/// Frequencies written and read back, by the library, by the original, and by each what the other wrote: up to 10^12 Hz
+/// they come back as they were, and so up to 2^32 MHz. The first that does not is 11 Hz above it, in all four ways.
+fn survive(g: &mut Group) {
+    const PROVED: u64 = 1_000_000_000_000;
+    const END: u64 = (1 << 32) * 1_000_000;
+    let read = |text: &[u8]| frequency::hertz(text).expect("a number in the window");
+    let trips = |hz: u64| {
+        let (mut out, theirs) = ([0xEE; 17], hz_to_mhz_string(hz));
+        let ours = frequency::megahertz(hz, &mut out).expect("a frequency that is not too high");
+        let ours = std::str::from_utf8(ours).expect("digits and a point");
+        [read(ours.as_bytes()), mhz_string_to_hz(&theirs), mhz_string_to_hz(ours), read(theirs.as_bytes())]
+    };
+    let same = |g: &mut Group, hz: u64| g.same(hz, trips(hz), [Some(hz); 4]);
+
+    let bands = bounds(normalize::band_for_freq_hz);
+    let powers = (0..52).map(|k| 1u64 << k).chain((0..16).map(|k| 10u64.pow(k)));
+    let kilohertz = (0..=30_000).map(|khz| khz * 1_000);
+    for hz in bands.into_iter().chain(powers).flat_map(around).chain(kilohertz) {
+        if g.takes(20) {
+            same(g, hz);
+        }
+    }
+    for _ in 0..g.depth(20_000, 2_000_000) {
+        let hz = g.random.next() % (PROVED + 1);
+        same(g, hz);
+    }
+    for _ in 0..g.depth(5_000, 500_000) {
+        let hz = PROVED + g.random.next() % (END - PROVED);
+        same(g, hz);
+    }
+    for hz in around(END) {
+        g.same(hz, trips(hz), [mhz_string_to_hz(&hz_to_mhz_string(hz)); 4]);
+    }
+    let first = around(END).find(|&hz| trips(hz) != [Some(hz); 4]);
+    g.same(END, (first, trips(END + 11)), (Some(END + 11), [Some(END + 12); 4]));
 }
 
 /// Texts that are refused before they are read, and long ones that are not.

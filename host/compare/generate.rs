@@ -39,6 +39,23 @@ impl Random {
     }
 }
 
+/// Every number from 1,100 below to 1,100 above.
+pub fn around(number: u64) -> impl Iterator<Item = u64> {
+    number.saturating_sub(1_100)..=number.saturating_add(1_100)
+}
+
+/// The lowest and the highest frequency of each band, found by going through the kilohertz.
+pub fn bounds<Band: PartialEq>(band: impl Fn(u64) -> Option<Band>) -> Vec<u64> {
+    let mut bounds = Vec::new();
+    for hz in (0..1_400_000_000).step_by(1_000) {
+        let (here, next) = (band(hz), band(hz + 1_000));
+        if here != next {
+            bounds.extend(here.map(|_| hz).into_iter().chain(next.map(|_| hz + 1_000)));
+        }
+    }
+    bounds
+}
+
 /// Every run of up to `most` parts, the shortest first.
 pub fn every<'a>(parts: &'a [&'a [u8]], most: u32) -> impl Iterator<Item = Vec<u8>> + 'a {
     (0..=most).flat_map(move |count| {

@@ -1,6 +1,6 @@
 //! The crate `normalize` against the original: each field of each answer of the C functions, and the Rust wrapper.
 
-use crate::generate::{BESIDE, Random, WHITE, damage, utf8};
+use crate::generate::{BESIDE, Random, WHITE, around, bounds, damage, utf8};
 use crate::harness::{Group, Run};
 use crate::rust;
 use original::normalize as theirs;
@@ -132,17 +132,8 @@ fn near(random: &mut Random, name: &str) -> Vec<u8> {
 /// Every bound and what stands beside it, and frequencies of any size.
 fn frequency(g: &mut Group) {
     let same = |g: &mut Group, hz: u64| g.same(hz, sys::band_for_freq_hz(hz), band(theirs::band_for_freq_hz(hz)));
-    // where the original's answer changes, found by going through the kilohertz
-    let mut bounds = vec![0, u64::MAX];
-    for khz in 0..1_400_000u64 {
-        if theirs::band_for_freq_hz(khz * 1_000) != theirs::band_for_freq_hz(khz * 1_000 + 1_000) {
-            bounds.push(khz * 1_000);
-        }
-    }
-    for bound in bounds {
-        for hz in bound.saturating_sub(1_100)..=bound.saturating_add(1_100) {
-            same(g, hz);
-        }
+    for hz in bounds(theirs::band_for_freq_hz).into_iter().chain([0, u64::MAX]).flat_map(around) {
+        same(g, hz);
     }
     for _ in 0..g.depth(20_000, 2_000_000) {
         let hz = match g.random.below(2) {

@@ -20,10 +20,13 @@ pub fn hertz(text: &[u8]) -> Result<Option<u64>, Refusal> {
 }
 
 /// Writes the frequency as megahertz with six decimals to the start of `out`, as rigflow's `hz_to_mhz_string`, and gives
-/// back the part written.
+/// back the part written. Of up to 10^12 Hz [`hertz`] reads it as the same number.
 ///
 /// ```
-/// assert_eq!(oxbreathe::frequency::megahertz(7_150_000, &mut [0; 17]), Ok(&b"7.150000"[..]));
+/// use oxbreathe::frequency::{hertz, megahertz};
+///
+/// assert_eq!(megahertz(7_150_000, &mut [0; 17]), Ok(&b"7.150000"[..]));
+/// assert_eq!(hertz(megahertz(14_097_087, &mut [0; 17]).unwrap()), Ok(Some(14_097_087)));
 /// ```
 pub fn megahertz(hz: u64, out: &mut [u8]) -> Result<&[u8], Refusal> {
     written(sys::hz_to_mhz(hz, out), out)
