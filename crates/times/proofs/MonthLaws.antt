@@ -1,14 +1,12 @@
--- The two tables of months are the calendar's, by one computed test of all their entries; and what the tests of a day and of a time
--- of day ask. Assumes nothing.
-use mathlib.Core.Path.{_≡_, refl, sym, ap, _∙_}
-use mathlib.Core.Bool.{Bool, true, false, not}
-use mathlib.Core.List.{List, [], _∷_}
-use Prim.Native.Nat.{ℕ, zero, suc, _+_, _-_, _≤_, _<_}
+-- The two formulas of months are the calendar's, by one computed test of all months in both kinds of year; and what the tests of a day
+-- and of a time of day ask. Assumes nothing.
+use mathlib.Core.Path.{_≡_, refl, sym, _∙_}
+use mathlib.Core.Bool.{Bool, true, false}
+use Prim.Native.Nat.{ℕ, zero, suc, _+_, _-_, _*_, _/_, _%_, _≤_, _<_}
 use native.Mathlib.Nat.{not-suc-le-zero, le-of-suc-le-suc}
 use native.Mathlib.Omega.{arith}
-use lib.ListN.{getD}
-use lib.Dec.{eqb, leb, ltb}
-use borrow.Author.Tests.{eqb-true, leb-true, le-leb, lt-leb, not-true, not-false, lt-ltb, le-ltb}
+use lib.Dec.{eqb, leb}
+use borrow.Author.Tests.{eqb-true, eq-eqb, ne-eqb, le-leb, lt-leb}
 use Rattle.text.specs.Pick.{pick, both}
 use Rattle.text.proofs.BoolLaws.{both-left, both-right}
 use Rattle.times.specs.Calendar.{leap, monthDays, daysBeforeYear, daysBeforeMonth, isDay, dayNumber}
@@ -24,65 +22,68 @@ below f zero t k h = absurd (not-suc-le-zero h)
 below f (suc n) t zero h = both-left (f zero) (allBelow (λ k. f (suc k)) n) t
 below f (suc n) t (suc k) h = below (λ k. f (suc k)) n (both-right (f zero) (allBelow (λ k. f (suc k)) n) t) k (le-of-suc-le-suc h)
 
-abbrev days : List ℕ
-days = 0 ∷ 31 ∷ 28 ∷ 31 ∷ 30 ∷ 31 ∷ 30 ∷ 31 ∷ 31 ∷ 30 ∷ 31 ∷ 30 ∷ 31 ∷ []
+-- how the days of month m, and the days before it, are worked out
+abbrev daysBy : Bool → ℕ → ℕ
+daysBy l m = pick (eqb m 2) (pick l 29 28) (30 + (m + m / 8) % 2)
 
-abbrev before : List ℕ
-before = 0 ∷ 0 ∷ 31 ∷ 59 ∷ 90 ∷ 120 ∷ 151 ∷ 181 ∷ 212 ∷ 243 ∷ 273 ∷ 304 ∷ 334 ∷ []
+abbrev beforeBy : Bool → ℕ → ℕ
+beforeBy l m = pick (leb m 2) (m / 2 * 31) ((m * 367 - 362) / 12 - pick l 1 2)
+
+-- whether they are the calendar's; that month 0 has no days is not worked out
+abbrev daysAgree : Bool → ℕ → Bool
+daysAgree l m = eqb (pick (leb 1 m) (daysBy l m) 0) (monthDays l m)
+
+abbrev beforeAgrees : Bool → ℕ → Bool
+beforeAgrees l m = eqb (beforeBy l m) (daysBeforeMonth l m)
+
+abbrev agree : Bool → ℕ → Bool
+agree l m = both (daysAgree l m) (beforeAgrees l m)
+
+all-agree : allBelow (λ m. both (agree true m) (agree false m)) 13 ≡ true
+unfolding monthDays daysBeforeMonth
+all-agree = refl
 
 module _ (l : Bool) (m : ℕ) (h : m ≤ 12) where
-  pub common-days : not l ≡ true → getD days m 0 ≡ monthDays l m
-  unfolding monthDays
-  common-days n = rw (not-true l n) refl
+  agree-at : agree l m ≡ true
+  agree-at = by l
+    where
+      kinds : both (agree true m) (agree false m) ≡ true
+      kinds = below (λ k. both (agree true k) (agree false k)) 13 all-agree m (omega arith)
 
-  module _ (y : not l ≡ false) where
-    pub february : m ≡ 2 → 29 ≡ monthDays l m
-    unfolding monthDays
-    february e = rw (not-false l y, e) refl
+      by : (k : Bool) → agree k m ≡ true
+      by true = both-left (agree true m) (agree false m) kinds
+      by false = both-right (agree true m) (agree false m) kinds
 
-    pub other-days : (m ≡ 2 → ⊥) → getD days m 0 ≡ monthDays l m
-    unfolding monthDays
-    other-days n =
-        rw (not-false l y)
-        (eqb-true (getD days m 0) (getD (0 ∷ 31 ∷ 29 ∷ 31 ∷ 30 ∷ 31 ∷ 30 ∷ 31 ∷ 31 ∷ 30 ∷ 31 ∷ 30 ∷ 31 ∷ []) m 0)
-        (by (eqb m 2) refl
-        (below
-        (λ k. pick (eqb k 2) true (eqb (getD days k 0) (getD (0 ∷ 31 ∷ 29 ∷ 31 ∷ 30 ∷ 31 ∷ 30 ∷ 31 ∷ 31 ∷ 30 ∷ 31 ∷ 30 ∷ 31 ∷ []) k 0)))
-        13 refl m (omega arith))))
-      where
-        by : (t : Bool) → eqb m 2 ≡ t
-            → pick t true (eqb (getD days m 0) (getD (0 ∷ 31 ∷ 29 ∷ 31 ∷ 30 ∷ 31 ∷ 30 ∷ 31 ∷ 31 ∷ 30 ∷ 31 ∷ 30 ∷ 31 ∷ []) m 0)) ≡ true
-            → eqb (getD days m 0) (getD (0 ∷ 31 ∷ 29 ∷ 31 ∷ 30 ∷ 31 ∷ 30 ∷ 31 ∷ 31 ∷ 30 ∷ 31 ∷ 30 ∷ 31 ∷ []) m 0) ≡ true
-        by true e q = absurd (n (eqb-true m 2 e))
-        by false e q = q
+  before-is : beforeBy l m ≡ daysBeforeMonth l m
+  before-is = eqb-true (beforeBy l m) (daysBeforeMonth l m) (both-right (daysAgree l m) (beforeAgrees l m) agree-at)
 
-  before-short : getD before m 0 ≤ 334
-  before-short = leb-true (getD before m 0) 334 (below (λ k. leb (getD before k 0) 334) 13 refl m (omega arith))
+  pub early-before : m ≤ 2 → m / 2 * 31 ≡ daysBeforeMonth l m
+  early-before e = sym (rw (le-leb m 2 e) refl) ∙ before-is
 
-  pub before-fits : getD before m 0 ≤ 335
-  before-fits = omega (arith, before-short)
+  pub early-fits : m ≤ 2 → m / 2 * 31 ≤ 335
+  early-fits e = omega arith
 
-  pub before-fits-more : getD before m 0 + 1 ≤ 335
-  before-fits-more = omega (arith, before-short)
+  module _ (e : 2 < m) where
+    pub leap-before : l ≡ true → (m * 367 - 362) / 12 - 1 ≡ daysBeforeMonth l m
+    leap-before y = sym (rw (lt-leb m 2 e, y) refl) ∙ before-is
 
-  common : getD before m 0 ≡ daysBeforeMonth false m
-  unfolding daysBeforeMonth monthDays
-  common = eqb-true _ _ (below (λ k. eqb (getD before k 0) (daysBeforeMonth false k)) 13 refl m (omega arith))
+    pub common-before : l ≡ false → (m * 367 - 362) / 12 - 2 ≡ daysBeforeMonth l m
+    common-before y = sym (rw (lt-leb m 2 e, y) refl) ∙ before-is
 
-  long : getD before m 0 + pick (ltb 2 m) 1 0 ≡ daysBeforeMonth true m
-  unfolding daysBeforeMonth monthDays
-  long = eqb-true _ _ (below (λ k. eqb (getD before k 0 + pick (ltb 2 k) 1 0) (daysBeforeMonth true k)) 13 refl m (omega arith))
+  module _ (p : 1 ≤ m) where
+    days-are : daysBy l m ≡ monthDays l m
+    days-are =
+        sym (rw (le-leb 1 m p) refl)
+        ∙ eqb-true (pick (leb 1 m) (daysBy l m) 0) (monthDays l m) (both-left (daysAgree l m) (beforeAgrees l m) agree-at)
 
-  pub common-before : not l ≡ true → getD before m 0 ≡ daysBeforeMonth l m
-  common-before n = rw (not-true l n) common
+    pub other-days : (m ≡ 2 → ⊥) → 30 + (m + m / 8) % 2 ≡ monthDays l m
+    other-days n = sym (rw (ne-eqb m 2 n) refl) ∙ days-are
 
-  module _ (y : not l ≡ false) where
-    pub early-before : m ≤ 2 → getD before m 0 ≡ daysBeforeMonth l m
-    early-before e =
-        rw (not-false l y) (sym (rw (le-ltb 2 m e) (omega arith)) ∙ long)
+    pub leap-february : m ≡ 2 → l ≡ true → 29 ≡ monthDays l m
+    leap-february e y = sym (rw (eq-eqb m 2 e, y) refl) ∙ days-are
 
-    pub late-before : 2 < m → getD before m 0 + 1 ≡ daysBeforeMonth l m
-    late-before e = rw (not-false l y) (sym (rw (lt-ltb 2 m e) refl) ∙ long)
+    pub common-february : m ≡ 2 → l ≡ false → 28 ≡ monthDays l m
+    common-february e y = sym (rw (eq-eqb m 2 e, y) refl) ∙ days-are
 
 -- a day
 module _ (y m d : ℕ) where

@@ -15,11 +15,6 @@ pub enum Moment {
     Never,
 }
 
-// The days of each month of a common year, and of the months before it, January being 1.
-const DAYS: [u32; 13] = [0, 31, 28, 31, 30, 31, 30, 31, 31, 30, 31, 30, 31];
-
-const BEFORE: [u32; 13] = [0, 0, 31, 59, 90, 120, 151, 181, 212, 243, 273, 304, 334];
-
 // A leap year of the Gregorian calendar.
 fn is_leap(year: u32) -> bool
     ensures { λ r. ⌜ r ≡ leap year ⌝ }
@@ -42,31 +37,32 @@ fn days_before_year(year: u32) -> u32
     year * 365 + (year + 3) / 4 + (year + 399) / 400 - (year + 99) / 100
 }
 
-fn days_of_month(leap: bool, month: usize) -> u32
-    requires { ⌜ month ≤ 12 ⌝ }
+// The months have 31 and 30 days in turn, from August on anew; February has 28 or 29.
+fn days_of_month(leap: bool, month: u32) -> u32
+    requires { ⌜ (1 ≤ month) × (month ≤ 12) ⌝ }
     ensures { λ r. ⌜ r ≡ monthDays leap month ⌝ }
 {
-    if !leap {
-        return DAYS[month];
+    if month != 2 {
+        return 30 + (month + month / 8) % 2;
     }
-    if month == 2 {
-        return 29;
-    }
-    DAYS[month]
+    if leap { 29 } else { 28 }
 }
 
-fn days_before_month(leap: bool, month: usize) -> u32
+// From March on, the days before the month if February had 30, less those that it lacks.
+fn days_before_month(leap: bool, month: u32) -> u32
     requires { ⌜ month ≤ 12 ⌝ }
     ensures { λ r. ⌜ r ≡ daysBeforeMonth leap month ⌝ }
     ensures { λ r. ⌜ r ≤ 335 ⌝ }
 {
-    if !leap {
-        return BEFORE[month];
-    }
     if month <= 2 {
-        return BEFORE[month];
+        return month / 2 * 31;
     }
-    BEFORE[month] + 1
+    let with_thirty = (month * 367 - 362) / 12;
+    if leap {
+        with_thirty - 1
+    } else {
+        with_thirty - 2
+    }
 }
 
 fn is_day(year: u32, month: u32, day: u32) -> bool
@@ -78,10 +74,7 @@ fn is_day(year: u32, month: u32, day: u32) -> bool
     if 12 < month {
         return false;
     }
-    text::all(
-        1 <= day,
-        day <= days_of_month(is_leap(year), month as usize),
-    )
+    text::all(1 <= day, day <= days_of_month(is_leap(year), month))
 }
 
 fn day_number(year: u32, month: u32, day: u32) -> u32
@@ -89,7 +82,7 @@ fn day_number(year: u32, month: u32, day: u32) -> u32
     ensures { λ r. ⌜ r ≡ dayNumber year month day ⌝ }
     ensures { λ r. ⌜ r ≤ 3661000 ⌝ }
 {
-    let before = days_before_year(year) + days_before_month(is_leap(year), month as usize);
+    let before = days_before_year(year) + days_before_month(is_leap(year), month);
     if 0 < day { before + (day - 1) } else { before }
 }
 

@@ -1,5 +1,5 @@
 use native.Mathlib.Omega.{arith}
-use Rattle.times.proofs.MonthLaws.{common-before, early-before, late-before, before-fits, before-fits-more}
+use Rattle.times.proofs.MonthLaws.{early-before, early-fits, leap-before, common-before}
 use borrow.Author.Needs.{needs}
 use Rattle.times.proofs.days_before_month.Statement.{statement}
 use Rattle.times.proofs.days_before_month.Tie as tie
@@ -7,44 +7,28 @@ use Rattle.times.proofs.days_before_month.Tie as tie
 mul-result : tie.Need-mul-result
 mul-result c = search needs
 
-array-read-result : tie.Need-array-read-result
-array-read-result c = search needs
-
 returns : tie.Need-returns
-returns c = (search common-before, search before-fits)
+returns c = (search early-before, search early-fits)
 
-mul-result-2 : tie.Need-mul-result-2
-mul-result-2 c = search needs
+mul-with-thirty : tie.Need-mul-with-thirty
+mul-with-thirty c = search needs
 
-array-read-result-2 : tie.Need-array-read-result-2
-array-read-result-2 c = search needs
+sub-with-thirty : tie.Need-sub-with-thirty
+sub-with-thirty c = search needs
+
+sub-result : tie.Need-sub-result
+sub-result c = search needs
+
+sub-result-2 : tie.Need-sub-result-2
+sub-result-2 c = search needs
 
 returns-2 : tie.Need-returns-2
-returns-2 c = (search early-before, search before-fits)
-
-mul-result-3 : tie.Need-mul-result-3
-mul-result-3 c = search needs
-
-array-read-result-3 : tie.Need-array-read-result-3
-array-read-result-3 c = search needs
-
-add-result : tie.Need-add-result
-add-result c = omega (arith, before-fits (c .before .before .args .leap) (c .before .before .args .month) (c .before .before .pre))
+returns-2 c = (search leap-before, omega arith)
 
 returns-3 : tie.Need-returns-3
-returns-3 c = (search late-before, search before-fits-more)
+returns-3 c = (search common-before, omega arith)
 
 pub days-before-month-spec : {M : Type 1} → statement M
 days-before-month-spec =
     tie.close
-    (tie.spec
-    mul-result
-    array-read-result
-    returns
-    mul-result-2
-    array-read-result-2
-    returns-2
-    mul-result-3
-    array-read-result-3
-    add-result
-    returns-3)
+    (tie.spec mul-result returns mul-with-thirty sub-with-thirty sub-result sub-result-2 returns-2 returns-3)
