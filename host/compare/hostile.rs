@@ -100,7 +100,8 @@ fn seen(answer: impl Debug) {
 /// A refusal, and all that it tells of a text, be it another one.
 fn refused<T>(answer: Result<T, Refusal>, text: &[u8]) {
     if let Err(refusal) = answer {
-        seen((refusal.to_string(), refusal.number(), refusal.at(), refusal.name(text), refusal.name(b"")));
+        seen((refusal.to_string(), refusal.number(), refusal.place, refusal.at(text), refusal.at(b"")));
+        seen((refusal.name(text), refusal.name(b"")));
         seen((refusal.cause.number(), refusal.cause.name()));
     }
 }

@@ -42,11 +42,12 @@ const fn list(name: &'static str, sound: &'static [&'static [u8]], ask: fn(&[&[u
     Call { name, sound, long: 1, bad: 17, both: 1, ask }
 }
 
-/// A refused answer is the empty one with the refusal and its place.
+/// A refused answer is the empty one with the refusal and, of 2, its place.
 macro_rules! told {
     ($answer:expr, $kind:ident) => {{
         let a = $answer;
-        (a.refusal, a.refusal == 0 || a == sys::$kind { refusal: a.refusal, place: a.place, ..Default::default() })
+        let place = if a.refusal == 2 { a.place } else { 0 };
+        (a.refusal, a.refusal == 0 || a == sys::$kind { refusal: a.refusal, place, ..Default::default() })
     }};
 }
 

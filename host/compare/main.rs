@@ -21,6 +21,7 @@ mod model;
 #[cfg(original)]
 mod normalize;
 mod notation;
+mod places;
 #[cfg(original)]
 mod plan;
 #[cfg(original)]

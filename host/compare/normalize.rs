@@ -4,8 +4,8 @@ use crate::generate::{BESIDE, Random, WHITE, around, bounds, damage, utf8};
 use crate::harness::{Group, Run};
 use crate::rust;
 use original::normalize as theirs;
-use oxbreathe::normalize as ours;
 use oxbreathe::sys::{self, Classified, Place, Placed, Told};
+use oxbreathe::{Refusal, normalize as ours};
 use std::borrow::Cow;
 
 pub fn run(run: &mut Run) {
@@ -54,18 +54,17 @@ fn class(text: &[u8], of: fn(&str) -> Option<theirs::ModeClass>) -> Classified {
     }
 }
 
-type Normal = Result<(String, Option<String>), (u32, usize)>;
+type Normal = Result<(String, Option<String>), Refusal>;
 
 fn normal(mode: &[u8], submode: Option<&[u8]>) -> Normal {
-    let [m, s] = rust::read([mode, submode.unwrap_or_default()])?;
+    let read = rust::read([mode, submode.unwrap_or_default()]);
+    let [m, s] = read.map_err(|(number, place)| rust::refusal(number, place))?;
     Ok(theirs::normalize_mode(m, submode.map(|_| s)))
 }
 
 fn wrapped(mode: &[u8], submode: Option<&[u8]>) -> Normal {
-    match ours::normalize_mode(mode, submode) {
-        Ok((mode, submode)) => Ok((mode.into_owned(), submode.map(Cow::into_owned))),
-        Err(refusal) => Err((refusal.cause.number(), refusal.place)),
-    }
+    let (mode, submode) = ours::normalize_mode(mode, submode)?;
+    Ok((mode.into_owned(), submode.map(Cow::into_owned)))
 }
 
 // What they are compared on.

@@ -5,6 +5,7 @@ use crate::contacts::{self, Contact};
 use crate::files::{Case, EMPTY, EXAMPLE, case, show};
 use crate::generate::{Placed, Random, damage};
 use crate::harness::{Group, Input, Run};
+use crate::places::{self, Refused};
 use crate::{reading, rust};
 use original::adif::{AdifRecord, parse_adif, record_to_qso, write_record};
 use original::import::{self, ImportPlan, ImportProblem};
@@ -19,6 +20,7 @@ use std::collections::HashSet;
 pub fn run(run: &mut Run) {
     run.group("plan/files", files);
     run.group("plan/refused", refused);
+    run.group("plan/places", places);
     run.group("plan/wrapped", wrapped);
     run.group("plan/long", long);
     run.group("plan/limits", limits);
@@ -337,9 +339,15 @@ fn expected(case: &Case, rooms: Rooms) -> (Left, Option<Theirs>) {
 }
 
 /// What the original makes of a case, and the answer that goes with it, or the refusal.
-pub fn made(case: &Case) -> Result<(PlanAnswer, Theirs), u32> {
+pub fn made(case: &Case) -> Result<(PlanAnswer, Theirs), Refusal> {
     let (left, theirs) = expected(case, enough(case));
-    theirs.map(|theirs| (left.answer, theirs)).ok_or(left.answer.refusal)
+    theirs.map(|theirs| (left.answer, theirs)).ok_or_else(|| refusal(&left.answer))
+}
+
+/// The refusal that an answer tells.
+fn refusal(answer: &PlanAnswer) -> Refusal {
+    let PlanAnswer { refusal, place, name, name_length, wanted, left, .. } = *answer;
+    Refusal { name_place: name, name_length, wanted, left, ..rust::refusal(refusal, place) }
 }
 
 /// Rooms that a plan of the case can do with.
@@ -511,6 +519,36 @@ fn spoil_text(random: &mut Random, text: &mut Vec<u8>) {
     }
 }
 
+/// Texts that are refused where their parts say, beside a list that is not empty; and lists and tables that are refused with no place, beside
+/// the same texts.
+fn places(g: &mut Group) {
+    let list = case(&mut g.random, 0, 5).list;
+    let contact = contacts::read(&list).expect("a list")[0].1.clone();
+    let bad = [
+        (vec![], 17),
+        (vec![2, 0, 0, 0, 0], 16),
+        (list[..list.len() - 1].to_vec(), 17),
+        (contacts::written(&[contact.clone(), contact]), 18),
+    ];
+    let mut placed = |text: &[u8], list: &[u8], rooms: Rooms, told: (u32, usize)| {
+        for download in [false, true] {
+            let case = Case { text: text.to_vec(), list: list.to_vec(), window: 1800, download };
+            let answer = ours(&case, rooms).answer;
+            g.same(&case, (answer.refusal, answer.place), told);
+            same(g, &case, rooms);
+        }
+    };
+    let rooms = |rows| Rooms { numbers: rows * 5, index: 5, fates: 2, confirmations: 2 };
+    for Refused { text, rows, refusal, at } in places::refused() {
+        placed(&text, &list, rooms(rows), (refusal, at.start));
+        placed(&text, &list, Rooms { index: 4, ..rooms(rows) }, (19, 0));
+        for (list, refusal) in &bad {
+            placed(&text, list, rooms(rows), (*refusal, 0));
+        }
+    }
+    placed(EXAMPLE.0.as_bytes(), &list, rooms(20), (19, 0));
+}
+
 /// The wrapper's calls.
 fn wrapped(g: &mut Group) {
     for _ in 0..g.depth(200, 20_000) {
@@ -526,9 +564,7 @@ fn wrapped(g: &mut Group) {
         let ours = call(text, list, *window);
         let (expected, theirs) = expected(&case, enough(&case));
         let Some(theirs) = theirs else {
-            let PlanAnswer { refusal, place, name, name_length, wanted, left, .. } = expected.answer;
-            let told = Refusal { length: name_length, wanted, left, ..rust::refusal(refusal, place + name) };
-            g.same(&case, ours.map(|_| ()), Err(told));
+            g.same(&case, ours.map(|_| ()), Err(refusal(&expected.answer)));
             continue;
         };
         let Ok(ours) = ours else {

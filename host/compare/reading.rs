@@ -3,6 +3,8 @@
 
 use crate::generate::{Placed, Random, bytes, damage, every, utf8};
 use crate::harness::{Group, Run};
+use crate::places::{self, Refused};
+use crate::rust;
 use oxbreathe::sys::{self, ReadAnswer};
 use oxbreathe::{LONGEST, Refusal, reading};
 use std::collections::BTreeMap;
@@ -12,6 +14,7 @@ pub fn run(run: &mut Run) {
     run.group("reading/parts", parts);
     run.group("reading/random", random);
     run.group("reading/tables", tables);
+    run.group("reading/places", places);
     run.group("reading/limits", limits);
     run.group("reading/stack", stack);
 }
@@ -23,16 +26,16 @@ type Places = (usize, usize);
 /// A record: of each name in capitals, the places of name and value.
 type Record = BTreeMap<String, (Places, Places)>;
 
-fn answer(number: u32) -> ReadAnswer {
-    ReadAnswer { refusal: number, ..ReadAnswer::default() }
+fn answer(refusal: u32, place: usize) -> ReadAnswer {
+    ReadAnswer { refusal, place, ..ReadAnswer::default() }
 }
 
 /// The answer and the table that a text is to give.
 pub fn expected(text: &[u8], numbers: usize) -> (ReadAnswer, Vec<u32>) {
     let mut table = vec![0; numbers];
     let read = match std::str::from_utf8(text) {
-        _ if text.len() > LONGEST => Err(answer(1)),
-        Err(e) => Err(ReadAnswer { place: e.valid_up_to(), ..answer(2) }),
+        _ if text.len() > LONGEST => Err(answer(1, 0)),
+        Err(e) => Err(answer(2, e.valid_up_to())),
         Ok(text) => records(text, numbers / 5),
     };
     let records = match read {
@@ -44,6 +47,12 @@ pub fn expected(text: &[u8], numbers: usize) -> (ReadAnswer, Vec<u32>) {
     (ReadAnswer { records: records.len(), rows: rows.len() / 5, ..ReadAnswer::default() }, table)
 }
 
+/// The refusal that an answer tells.
+fn refusal(answer: &ReadAnswer) -> Refusal {
+    let ReadAnswer { refusal, place, name, name_length, wanted, left, .. } = *answer;
+    Refusal { name_place: name, name_length, wanted, left, ..rust::refusal(refusal, place) }
+}
+
 fn lines(number: u32, record: &Record) -> impl Iterator<Item = u32> {
     let five = |(name, value): &(Places, Places)| [name.0, name.1, value.0, value.1].map(|n| n as u32);
     record.values().flat_map(move |field| std::iter::once(number).chain(five(field))).collect::<Vec<_>>().into_iter()
@@ -51,23 +60,24 @@ fn lines(number: u32, record: &Record) -> impl Iterator<Item = u32> {
 
 fn records(text: &str, room: usize) -> Result<Vec<Record>, ReadAnswer> {
     let (mut closed, mut hand, mut used) = (Vec::new(), Record::new(), 0);
-    let mut close = |closed: &mut Vec<Record>, hand: &mut Record| {
+    let mut close = |closed: &mut Vec<Record>, hand: &mut Record, place: usize| {
         if hand.is_empty() {
             return Ok(());
         }
         if closed.len() == 65_535 {
-            return Err(answer(9));
+            return Err(answer(9, place));
         }
         if used + hand.len() > room {
-            return Err(answer(10));
+            return Err(answer(10, place));
         }
         used += hand.len();
         closed.push(std::mem::take(hand));
         Ok(())
     };
     let mut at = 0;
-    while let Some(open) = text[at..].find('<').map(|i| at + i + 1) {
-        let Some(end) = text[open..].find('>').map(|i| open + i) else { return Err(answer(3)) };
+    while let Some(start) = text[at..].find('<').map(|i| at + i) {
+        let open = start + 1;
+        let Some(end) = text[open..].find('>').map(|i| open + i) else { return Err(answer(3, start)) };
         let inside = &text[open..end];
         at = end + 1;
         let (written, rest) = inside.split_once(':').map_or((inside, None), |(name, rest)| (name, Some(rest)));
@@ -77,10 +87,10 @@ fn records(text: &str, room: usize) -> Result<Vec<Record>, ReadAnswer> {
             length => (open + written.len() - written.trim_start().len(), length),
         };
         let raised = written.trim().to_ascii_uppercase();
-        let refused = |number| ReadAnswer { name: name.0, name_length: name.1, ..answer(number) };
+        let refused = |number| ReadAnswer { name: name.0, name_length: name.1, ..answer(number, start) };
         match raised.as_str() {
             "EOH" => hand.clear(),
-            "EOR" => close(&mut closed, &mut hand)?,
+            "EOR" => close(&mut closed, &mut hand, start)?,
             "APP_LOTW_EOF" => break,
             _ => {
                 let length = rest.ok_or(refused(4))?.split(':').next().unwrap().trim();
@@ -95,14 +105,14 @@ fn records(text: &str, room: usize) -> Result<Vec<Record>, ReadAnswer> {
                     return Err(refused(7));
                 }
                 if hand.len() == 256 && !hand.contains_key(&raised) {
-                    return Err(answer(8));
+                    return Err(answer(8, start));
                 }
                 hand.insert(raised, (name, value));
             }
         }
     }
     if !closed.is_empty() {
-        close(&mut closed, &mut hand)?;
+        close(&mut closed, &mut hand, text.len())?;
     }
     Ok(closed)
 }
@@ -270,17 +280,29 @@ fn tables(g: &mut Group) {
             });
             let five = |row: &[u32]| (row[0], (row[1] as usize, row[2] as usize), (row[3] as usize, row[4] as usize));
             let theirs = (answer.records, rows[..answer.rows * 5].chunks(5).map(five).collect());
-            match ours {
-                Ok(ours) => g.same((&text[..], numbers as u64), ours, theirs),
-                Err(Refusal { cause, place, length, wanted, left }) => {
-                    let told = (cause.number(), place, length, wanted, left);
-                    let at = answer.place + answer.name;
-                    let expected = (answer.refusal, at, answer.name_length, answer.wanted, answer.left);
-                    g.same((&text[..], numbers as u64), told, expected);
-                }
-            }
+            let theirs = if answer.refusal == 0 { Ok(theirs) } else { Err(refusal(&answer)) };
+            g.same((&text[..], numbers as u64), ours, theirs);
         }
     }
+}
+
+/// Texts that are refused where their parts say, and what the wrapper makes of the place.
+fn places(g: &mut Group) {
+    for case in places::refused() {
+        placed(g, &case);
+    }
+    for _ in 0..g.depth(2_000, 200_000) {
+        let case = places::random(&mut g.random);
+        placed(g, &case);
+    }
+}
+
+fn placed(g: &mut Group, Refused { text, rows, refusal, at }: &Refused) {
+    same(g, text, rows * 5);
+    let mut table = vec![[7; 5]; *rows];
+    let told = reading::read(text, &mut table).map(|read| read.len());
+    let told = told.map_err(|why| (why.number(), why.place, why.at(text)));
+    g.same(&text[..], told, Err((*refusal, Some(at.start), Some(at.clone()))));
 }
 
 /// What a limit refuses and what it lets through: 255 to 257 names, in a header too; 65,534 to 65,536 records; the

@@ -3,9 +3,10 @@
 use oxbreathe::{Cause, LONGEST, Refusal};
 use std::cmp::Ordering;
 
-/// The refusal of this number at a place of the text.
+/// The refusal of this number, at a place of the text where it has one.
 pub fn refusal(number: u32, place: usize) -> Refusal {
-    Refusal { cause: Cause::numbered(number).unwrap(), place, length: 0, wanted: 0, left: 0 }
+    let place = (2..=10).contains(&number).then_some(place);
+    Refusal { cause: Cause::numbered(number).unwrap(), place, name_place: 0, name_length: 0, wanted: 0, left: 0 }
 }
 
 /// The places of the first byte kept and of the first one after; of a blank text both are the length.

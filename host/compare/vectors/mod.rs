@@ -146,8 +146,8 @@ fn recorded(folder: &Path, samples: &Path, seed: u64) -> Result<(), String> {
     }
     for (number, text) in (1..).zip(plan::files(&mut Random::new(seed))) {
         let [file, printed] = sample(samples, number);
-        write(&file, text.as_bytes())?;
-        write(&printed, plan::expected(text.as_bytes()).as_bytes())?;
+        write(&file, &text)?;
+        write(&printed, plan::expected(&text).as_bytes())?;
     }
     Ok(())
 }

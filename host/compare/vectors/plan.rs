@@ -5,16 +5,17 @@ use crate::files::{Case, EMPTY, EXAMPLE, case, file, show};
 use crate::generate::Random;
 use crate::notation::Argument::{self, Number, Text};
 use crate::notation::bars;
-use oxbreathe::plan;
 use oxbreathe::sys::Counts;
+use oxbreathe::{Refusal, plan};
 
 pub const AREA: Area = Area {
     name: "plan",
     head: &[
         "What the original plans, one vector a line: plan TEXT LIST WINDOW DOWNLOAD = ANSWER. The window is 64 bits with a sign,",
-        "so that 18446744073709551615 is -1; DOWNLOAD is 1 or 0. The answer: a refusal's number; or 0, how many records, a fate",
-        "and a reason of each, how many confirmations, an id, a service and a date of each, the seven counts, the list's mark,",
-        "and the summary. At most 4 records of 20 fields, and 4 contacts. summary COUNT.. = ANSWER: the line of seven counts.",
+        "so that 18446744073709551615 is -1; DOWNLOAD is 1 or 0. The answer: a refusal's number, and its place where it has one;",
+        "or 0, how many records, a fate and a reason of each, how many confirmations, an id, a service and a date of each, the",
+        "seven counts, the list's mark, and the summary. At most 4 records of 20 fields, and 4 contacts. summary COUNT.. =",
+        "ANSWER: the line of seven counts.",
     ],
     longest: 1_000,
     operations: &[
@@ -33,10 +34,16 @@ struct Told {
     summary: String,
 }
 
-fn shown(told: Result<Told, u32>) -> String {
+/// The number of a refusal, and its place where it has one.
+fn refused(refusal: Refusal) -> String {
+    let place = refusal.place.map_or(String::new(), |place| format!(" {place}"));
+    format!("{}{place}", refusal.number())
+}
+
+fn shown(told: Result<Told, Refusal>) -> String {
     let told = match told {
         Ok(told) => told,
-        Err(refusal) => return refusal.to_string(),
+        Err(refusal) => return refused(refusal),
     };
     let mut words = vec!["0".to_string(), told.fates.len().to_string()];
     words.extend(told.fates.iter().flatten().map(u32::to_string));
@@ -55,7 +62,7 @@ fn ours(a: &[Argument]) -> String {
     let call = if a[3].number() == 1 { plan::plan_download } else { plan::plan };
     let plan = match call(a[0].text(), a[1].text(), a[2].number() as i64) {
         Ok(plan) => plan,
-        Err(refusal) => return shown(Err(refusal.cause.number())),
+        Err(refusal) => return shown(Err(refusal)),
     };
     let confirmation = |c: &plan::Confirmation| (c.id, c.service as u32, c.date.unwrap_or_default().to_string());
     shown(Ok(Told {
@@ -79,7 +86,7 @@ fn counts(a: &[Argument]) -> Counts {
 
 #[cfg(original)]
 mod theirs {
-    use super::{Argument, Case, Told, bars, counts, show, shown};
+    use super::{Argument, Case, Told, bars, counts, refused, show, shown};
     use crate::plan::{counted, made};
 
     pub fn plan(a: &[Argument]) -> String {
@@ -110,7 +117,7 @@ mod theirs {
     pub fn printed(case: &Case) -> String {
         match made(case) {
             Ok((_, theirs)) => show(&theirs.fates, &theirs.plan.summary()),
-            Err(refusal) => format!("refused {refusal}\n"),
+            Err(refusal) => format!("refused {}\n", refused(refusal)),
         }
     }
 }
@@ -145,19 +152,19 @@ fn questions(random: &mut Random) -> Vec<Question> {
         let numbers = [case.window as u64, case.download as u64].map(Number);
         all.push(("plan", [Text(case.text), Text(case.list)].into_iter().chain(numbers).collect()));
     };
-    let on = |text: &str, list: &[u8], window, download| Case {
-        text: text.as_bytes().to_vec(),
+    let on = |text: &[u8], list: &[u8], window, download| Case {
+        text: text.to_vec(),
         list: list.to_vec(),
         window,
         download,
     };
     for (window, download) in [(1800, false), (1799, false), (-1, false), (1800, true)] {
-        add(on(EXAMPLE.0, &EMPTY, window, download));
+        add(on(EXAMPLE.0.as_bytes(), &EMPTY, window, download));
     }
     for list in [&[][..], &[2], &[1, 0, 0, 0, 1], &[1, 0, 0, 0, 0, 0]] {
-        add(on("<A", list, 1800, false));
+        add(on(b"<A", list, 1800, false));
     }
-    for text in REFUSED {
+    for text in REFUSED.iter().chain(&REFUSED_TOO) {
         add(on(text, &EMPTY, 1800, false));
     }
     let mut plans = 0;
@@ -184,15 +191,22 @@ fn questions(random: &mut Random) -> Vec<Question> {
 const PLANS: usize = 60;
 
 /// 4, 3, 6 and 5.
-const REFUSED: [&str; 4] = ["<A>x", "<A:1>x<EOR><B", "<A:1>x<EOR><B:5>x", "<A:x>"];
+const REFUSED: [&[u8]; 4] = [b"<A>x", b"<A:1>x<EOR><B", b"<A:1>x<EOR><B:5>x", b"<A:x>"];
+
+/// 2 and 7.
+const REFUSED_TOO: [&[u8]; 2] = [b"<A:1>x<EOR>\xFF", b"\xC3\xA9<A:1>x<EOR><B:1>\xC3\xA9<EOR>"];
 
 // What showplan prints
 
-/// Files to show, in order: the document's example, texts that are refused, and files of up to nine records.
-pub fn files(random: &mut Random) -> Vec<String> {
-    let mut all = vec![EXAMPLE.0.to_string()];
-    all.extend(REFUSED.map(String::from));
-    all.extend((0..15).map(|i| file(random, i % 9 + 1)));
+/// Files to show, in order: the document's example, texts that are refused, files of up to nine records, and more that are refused, the
+/// last with 8.
+pub fn files(random: &mut Random) -> Vec<Vec<u8>> {
+    let mut all = vec![EXAMPLE.0.into()];
+    all.extend(REFUSED.map(Vec::from));
+    all.extend((0..15).map(|i| file(random, i % 9 + 1).into_bytes()));
+    all.extend(REFUSED_TOO.map(Vec::from));
+    let names: String = (0..257).map(|i| format!("<N{i}:0>")).collect();
+    all.push(format!("<A:1>x<EOR>{names}").into_bytes());
     all
 }
 
@@ -209,6 +223,6 @@ pub fn expected(text: &[u8]) -> String {
 pub fn printed(case: &Case) -> String {
     match plan::plan(&case.text, &case.list, case.window) {
         Ok(plan) => show(&fates(&plan), &plan.summary()),
-        Err(refusal) => format!("refused {}\n", refusal.cause.number()),
+        Err(refusal) => format!("refused {}\n", refused(refusal)),
     }
 }

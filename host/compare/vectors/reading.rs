@@ -64,6 +64,7 @@ fn questions(random: &mut Random) -> Vec<Question> {
         "<A:1>x<EOR><EOH><EOR>",
         "<A:1>x<EOR><B:1>y<EOH>",
         "<A:1>x<EOR><APP_LoTW_EOF><B:1>y<EOR>",
+        "<A:1>x<EOR><B:1>y<APP_LoTW_EOF><C:1>z<EOR>",
         "<APP_LOTW_EOF",
         "<B:1>x<A:1>y<EOR>",
         "<a_:0><AZ:0><az_:0><EOR>",
@@ -76,6 +77,11 @@ fn questions(random: &mut Random) -> Vec<Question> {
         "< Eoh : : >",
         "<A:1<B:1>xy<EOR>",
         "<é:2>é<EOR>",
+        "é<NOTE:5><EOR><A",
+        "é\n<A:1>x<EOR>< A >",
+        "<NOTE:6><A:9>y<:x>",
+        "<NOTE:1><<A:3>é",
+        "<A:1>x<EOR>日<B:1>y<C:1>é",
     ];
     for text in edges {
         for numbers in [4, 5, 12] {

@@ -26,7 +26,7 @@ const OPERATIONS: &[Operation] = &[
         theirs: |a| rust::utf8(a[0].text()).to_string(),
         ours: |a| match text::check(a[0].text()) {
             Ok(text) => text.len().to_string(),
-            Err(refusal) => refusal.place.to_string(),
+            Err(refusal) => refusal.place.map_or(refusal.to_string(), |place| place.to_string()),
         },
     },
     Operation {

@@ -18,6 +18,8 @@ pub struct Refused<'a> {
 struct Spot {
     line: usize,
     column: usize,
+    /// Whether it is the end of the text.
+    at_end: bool,
     /// The line as it is shown, and what of it is meant, in characters.
     shown: String,
     meant: Range<usize>,
@@ -28,8 +30,11 @@ const BEFORE: usize = 60;
 const BEHIND: usize = 40;
 
 impl Spot {
-    /// Of some bytes of a text.
+    /// Of some bytes of a text; of its end, behind all that is no white space.
     fn of(bytes: &[u8], meant: Range<usize>) -> Option<Spot> {
+        let at_end = meant.start == bytes.len();
+        let bytes = if at_end { bytes.trim_ascii_end() } else { bytes };
+        let meant = if at_end { bytes.len()..bytes.len() } else { meant };
         let before = bytes.get(..meant.start)?;
         let start = before.iter().rposition(|&byte| byte == b'\n').map_or(0, |newline| newline + 1);
         let rest = bytes.get(meant.start..)?.split(|&byte| byte == b'\n').next()?;
@@ -49,7 +54,7 @@ impl Spot {
             shown.push('…');
         }
         let line = before.iter().filter(|&&byte| byte == b'\n').count() + 1;
-        Some(Spot { line, column: left.len() + 1, shown, meant: at..at + width })
+        Some(Spot { line, column: left.len() + 1, at_end, shown, meant: at..at + width })
     }
 }
 
@@ -62,6 +67,8 @@ struct Told<'a> {
     #[serde(skip_serializing_if = "Option::is_none")]
     field: Option<&'a str>,
     #[serde(skip_serializing_if = "Option::is_none")]
+    place: Option<usize>,
+    #[serde(skip_serializing_if = "Option::is_none")]
     line: Option<usize>,
     #[serde(skip_serializing_if = "Option::is_none")]
     column: Option<usize>,
@@ -72,13 +79,8 @@ struct Told<'a> {
 }
 
 impl<'a> Refused<'a> {
-    /// Where it is, as far as the library tells. Of a tag without its end it does not: that is the last `<` that no `>` follows.
     fn spot(&self) -> Option<Spot> {
-        let unterminated = || {
-            let at = self.bytes.iter().rposition(|&byte| byte == b'<' || byte == b'>')?;
-            (self.why.cause == Cause::UnterminatedTag).then_some(at..at + 1)
-        };
-        Spot::of(self.bytes, self.why.at().or_else(unterminated)?)
+        Spot::of(self.bytes, self.why.at(self.bytes)?)
     }
 
     /// What to do about it.
@@ -86,7 +88,7 @@ impl<'a> Refused<'a> {
         let advice = match self.why.cause {
             Cause::TooLong => "Cut the file into smaller ones.",
             Cause::NotUtf8 => {
-                return self.why.at().map(|at| encoding::advice(self.bytes, at.start)).unwrap_or_default();
+                return self.why.place.map(|place| encoding::advice(self.bytes, place)).unwrap_or_default();
             }
             Cause::UnterminatedTag => {
                 "The file may have been cut off: fetch it again, or end it behind the last <EOR>."
@@ -118,7 +120,10 @@ impl<'a> Refused<'a> {
     fn facts(&self, spot: Option<&Spot>) -> String {
         let name = self.why.name(self.bytes).filter(|name| !name.is_empty());
         let field = name.map(|name| format!("field {}", table::plain(name)));
-        let place = spot.map(|spot| format!("line {}, column {}", spot.line, spot.column));
+        let place = spot.map(|spot| {
+            let end = if spot.at_end { ", at the end of the file" } else { "" };
+            format!("line {}, column {}{end}", spot.line, spot.column)
+        });
         let lengths = self.lengths().map(|(wanted, left)| format!("{wanted} bytes wanted, {left} left"));
         [field, place, lengths].into_iter().flatten().collect::<Vec<_>>().join(", ")
     }
@@ -148,6 +153,7 @@ impl<'a> Refused<'a> {
             refused: why.number(),
             meaning: why.cause.name(),
             field: why.name(bytes),
+            place: why.place,
             line: spot.as_ref().map(|spot| spot.line),
             column: spot.as_ref().map(|spot| spot.column),
             wanted: self.lengths().map(|(wanted, _)| wanted),
@@ -175,4 +181,24 @@ impl<'a> Refused<'a> {
 /// What the library answers about what was read, or the refusal as a failure.
 pub fn of<T>(input: &In, bytes: &[u8], answer: Result<T, Refusal>) -> Result<T, Failure> {
     answer.map_err(|why| Failure::Refused(Refused { input, bytes, why }.text()))
+}
+
+#[cfg(test)]
+mod tests {
+    use super::Spot;
+
+    #[test]
+    fn at_the_end() {
+        for (text, line, column, shown) in [
+            ("", 1, 1, ""),
+            ("\n\n", 1, 1, ""),
+            ("<A:0>", 1, 6, "<A:0>"),
+            ("é\r\n<A:0> \r\n\n", 2, 6, "<A:0>"),
+            ("<A:0>\né", 2, 2, "é"),
+        ] {
+            let spot = Spot::of(text.as_bytes(), text.len()..text.len()).expect("a place of the text");
+            assert_eq!((spot.line, spot.column, spot.at_end, &*spot.shown), (line, column, true, shown), "{text:?}");
+            assert_eq!(spot.meant, column - 1..column, "{text:?}");
+        }
+    }
 }

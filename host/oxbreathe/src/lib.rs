@@ -1,8 +1,8 @@
 //! Oxbreathe for Rust: safe calls of the proved library, with no dependencies. It links `liboxbreathe.a`, for x86-64 Linux, which is
 //! shipped in the folder `dist`; Cargo looks there, or in the folder `OXBREATHE_LIB`, and rustc is told by `-L native=`.
 //!
-//! Every call takes any bytes and answers with a value or a [`Refusal`]; none panics. What a value holds of a text is a part
-//! of that text: nothing is copied that can be borrowed.
+//! Every call takes any bytes and answers with a value or a [`Refusal`], which says what for and where in the text; none panics.
+//! What a value holds of a text is a part of that text: nothing is copied that can be borrowed.
 //!
 //! A log that is there already and a file to import:
 //!

@@ -37,19 +37,24 @@ numbered! {
 ///
 /// let text = b"<CALL:4>W1AW <QTH:9>Hamburg";
 /// let refusal = reading::read(text, &mut reading::table(text)).unwrap_err();
-/// assert_eq!(refusal.cause, Cause::TruncatedValue);
-/// assert_eq!((refusal.number(), refusal.name(text), refusal.at()), (6, Some("QTH"), Some(14..17)));
-/// assert_eq!(refusal.to_string(), "refusal 6: a value longer than the text that is left: 9 bytes wanted, 7 left");
+/// assert_eq!((refusal.cause, refusal.number()), (Cause::TruncatedValue, 6));
+/// assert_eq!((refusal.place, refusal.at(text), refusal.name(text)), (Some(13), Some(13..17), Some("QTH")));
+/// let told = "refusal 6: a value longer than the text that is left, at byte 13: 9 bytes wanted, 7 left";
+/// assert_eq!(refusal.to_string(), told);
 /// ```
 #[derive(Clone, Copy, Debug, PartialEq, Eq, Hash)]
 pub struct Refusal {
     /// What for.
     pub cause: Cause,
-    /// The place of the first bad byte where the cause is [`Cause::NotUtf8`], counted through all the texts of the call as if
-    /// each stood after the one before; that of the tag's name from [`Cause::MissingLength`] to [`Cause::CutCharacter`]; else 0.
-    pub place: usize,
+    /// Where in the text. With [`Cause::NotUtf8`] the first bad byte, counted through all the texts of the call as if each stood after
+    /// the one before; from [`Cause::UnterminatedTag`] to [`Cause::TooManyNames`] the `<` of the tag; with [`Cause::TooManyRecords`]
+    /// and [`Cause::TooFewRows`] the `<` of the tag that closed the record, or the text's length where the end or an APP_LOTW_EOF
+    /// closed it. None with any other cause, and where rows are refused, not a text.
+    pub place: Option<usize>,
+    /// The place of the tag's name from [`Cause::MissingLength`] to [`Cause::CutCharacter`], 0 where it is empty; else 0.
+    pub name_place: usize,
     /// The length of that name, else 0.
-    pub length: usize,
+    pub name_length: usize,
     /// The length that the tag gives where the cause is [`Cause::TruncatedValue`], else 0.
     pub wanted: u64,
     /// The bytes that were left for it, else 0.
@@ -57,26 +62,27 @@ pub struct Refusal {
 }
 
 impl Refusal {
-    /// None for 0, as the first two fields of an answer tell it.
+    /// None for 0, as the first field of an answer tells it.
     #[inline]
-    pub(crate) fn told(number: u32, place: usize) -> Option<Refusal> {
-        if number == 0 { None } else { Some(Refusal::numbered(number, place)) }
+    pub(crate) fn told(number: u32) -> Option<Refusal> {
+        if number == 0 { None } else { Some(Refusal::numbered(number)) }
     }
 
     #[cold]
-    fn numbered(number: u32, place: usize) -> Refusal {
+    fn numbered(number: u32) -> Refusal {
         let cause = Cause::numbered(number).unwrap_or(Cause::Unknown);
-        Refusal { cause, place, length: 0, wanted: 0, left: 0 }
+        Refusal { cause, place: None, name_place: 0, name_length: 0, wanted: 0, left: 0 }
+    }
+
+    /// With the place that an answer tells besides. Whether it is one goes by the number: 0 is a place too.
+    pub(crate) fn placed(self, place: usize) -> Refusal {
+        let is_placed = (Cause::NotUtf8..=Cause::TooFewRows).contains(&self.cause);
+        Refusal { place: is_placed.then_some(place), ..self }
     }
 
     /// With what the answer of a reading tells besides.
-    pub(crate) fn of_field(self, name: usize, length: usize, wanted: u64, left: u64) -> Refusal {
-        let place = if self.is_of_field() { name } else { self.place };
-        Refusal { place, length, wanted, left, ..self }
-    }
-
-    fn is_of_field(&self) -> bool {
-        (Cause::MissingLength..=Cause::CutCharacter).contains(&self.cause)
+    pub(crate) fn of_field(self, name_place: usize, name_length: usize, wanted: u64, left: u64) -> Refusal {
+        Refusal { name_place, name_length, wanted, left, ..self }
     }
 
     /// The number of its cause in the C interface.
@@ -84,28 +90,44 @@ impl Refusal {
         self.cause.number()
     }
 
-    /// The bytes of the text that it is about, as far as the library tells them: the first bad byte, or the name of a field.
-    /// Where an empty name stands is not told.
-    pub fn at(&self) -> Option<Range<usize>> {
-        let length = if self.cause == Cause::NotUtf8 { 1 } else { self.length };
-        (length > 0).then(|| self.place..self.place.saturating_add(length))
+    /// The bytes of the text that it is about: the first bad byte; of a tag the `<` and all up to the end of its name; and the
+    /// empty range at the end of the text where that closed the record.
+    pub fn at(&self, text: &[u8]) -> Option<Range<usize>> {
+        let place = self.place?;
+        let rest = text.get(place..)?;
+        let end = match (self.cause, self.name_length) {
+            (Cause::NotUtf8, _) => place + rest.len().min(1),
+            (_, 0) => place + named(rest),
+            (_, length) => self.name_place.saturating_add(length),
+        };
+        Some(place..end)
     }
 
     /// The name of the field that it is about, in the text that was read.
     pub fn name<'a>(&self, text: &'a [u8]) -> Option<&'a str> {
-        let name = text.get(self.place..self.place.checked_add(self.length)?)?;
-        std::str::from_utf8(name).ok().filter(|_| self.is_of_field())
+        let is_of_field = (Cause::MissingLength..=Cause::CutCharacter).contains(&self.cause);
+        let name = text.get(self.name_place..self.name_place.checked_add(self.name_length)?)?;
+        std::str::from_utf8(name).ok().filter(|_| is_of_field)
     }
+}
+
+/// How long the tag is that a text starts with, up to the end of its name: to the first `:`, `>` or line break, without the white
+/// space before that.
+fn named(tag: &[u8]) -> usize {
+    let name = tag.split(|byte| b":>\r\n".contains(byte)).next().unwrap_or_default();
+    std::str::from_utf8(name).map_or(name.len(), |name| name.trim_end().len())
 }
 
 impl fmt::Display for Refusal {
     fn fmt(&self, f: &mut fmt::Formatter<'_>) -> fmt::Result {
         write!(f, "refusal {}: {}", self.number(), self.cause.name())?;
-        match self.cause {
-            Cause::NotUtf8 => write!(f, ": the first bad byte is at {}", self.place),
-            Cause::TruncatedValue => write!(f, ": {} bytes wanted, {} left", self.wanted, self.left),
-            _ => Ok(()),
+        if let Some(place) = self.place {
+            write!(f, ", at byte {place}")?;
         }
+        if self.cause == Cause::TruncatedValue {
+            write!(f, ": {} bytes wanted, {} left", self.wanted, self.left)?;
+        }
+        Ok(())
     }
 }
 

@@ -18,7 +18,7 @@ macro_rules! structs {
         structs! { @ $(#[$doc])* $name [] { refusal: u32, $($field: $type),* } }
         impl Answer for $name {
             fn refusal(&self) -> Option<Refusal> {
-                Refusal::told(self.refusal, 0)
+                Refusal::told(self.refusal)
             }
         }
     };
@@ -26,7 +26,7 @@ macro_rules! structs {
         structs! { @ $(#[$doc])* $name [] { refusal: u32, place: usize, $($field: $type),* } }
         impl Answer for $name {
             fn refusal(&self) -> Option<Refusal> {
-                Refusal::told(self.refusal, self.place)
+                Some(Refusal::told(self.refusal)?.placed(self.place))
             }
         }
     };
@@ -36,7 +36,7 @@ macro_rules! structs {
         } }
         impl Answer for $name {
             fn refusal(&self) -> Option<Refusal> {
-                let refusal = Refusal::told(self.refusal, self.place)?;
+                let refusal = Refusal::told(self.refusal)?.placed(self.place);
                 Some(refusal.of_field(self.name, self.name_length, self.wanted, self.left))
             }
         }

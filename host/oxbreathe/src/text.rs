@@ -13,7 +13,7 @@ use std::ops::Range;
 /// use oxbreathe::{Cause, text::check};
 ///
 /// assert_eq!(check(b"W1AW"), Ok("W1AW"));
-/// assert_eq!(check(b"W1\xFF").unwrap_err().place, 2);
+/// assert_eq!(check(b"W1\xFF").unwrap_err().place, Some(2));
 /// ```
 pub fn check(text: &[u8]) -> Result<&str, Refusal> {
     sys::text_check(text).accepted()?;
