@@ -347,9 +347,12 @@ static inline ox_row ox_row_at(const uint32_t *table, size_t row) {
     return r;
 }
 
+/* The place in the text: with 2 the first bad byte; with 3 to 8 the < of the tag; with 9 and 10 the < of the tag that
+ * closed the record, or the text's length where the end or an APP_LOTW_EOF closed it. Whether there is one goes by the
+ * number, since 0 is a place too. */
 typedef struct ox_read_answer {
     uint32_t refusal;
-    size_t place;             /* with 2: the first bad byte */
+    size_t place;             /* with 2 to 10 */
     size_t name, name_length; /* with 4 to 7: the name of the tag */
     uint64_t wanted, left;    /* with 6: the length that the tag gives, and the bytes that were there */
     size_t records;
@@ -366,9 +369,9 @@ typedef struct ox_read_answer {
  *     ox_row first = ox_row_at(table, 0);
  *     assert(memcmp(log + first.name, "band", 4) == 0 && memcmp(log + first.value, "40m", 3) == 0);
  *
- *     read = ox_read(OX_TEXT("<CALL:9>W1AW"), table, 3 * OX_ROW);
- *     assert(read.refusal == OX_TRUNCATED_VALUE && read.name == 1 && read.wanted == 9 && read.left == 4);
- *     assert(table[0] == 0);
+ *     read = ox_read(OX_TEXT("<BAND:3>40m <CALL:9>W1AW"), table, 3 * OX_ROW);
+ *     assert(read.refusal == OX_TRUNCATED_VALUE && read.place == 12 && read.name == 13);
+ *     assert(read.wanted == 9 && read.left == 4 && table[0] == 0);
  */
 ox_read_answer ox_read(const char *text, size_t length, uint32_t *table, size_t numbers);
 
@@ -726,7 +729,7 @@ typedef struct ox_counts {
 
 typedef struct ox_plan_answer {
     uint32_t refusal;
-    size_t place; /* these five as in ox_read_answer */
+    size_t place; /* these five as in ox_read_answer, of the text and never of the list */
     size_t name, name_length;
     uint64_t wanted, left;
     size_t records;       /* rows of the fates in use */
@@ -752,6 +755,10 @@ typedef struct ox_plan_answer {
  *                                   fates, 2, confirmations, 4);
  *     assert(plan.refusal == OX_ACCEPTED && plan.records == 2 && plan.confirmations == 0);
  *     assert(fates[0][0] == OX_DUPLICATE_IN_LOG && fates[1][0] == OX_UNUSABLE && fates[1][1] == OX_NO_CALL);
+ *
+ *     ox_plan_answer none = ox_plan(OX_TEXT("<BAND:3>40m <CALL>W1AW <EOR>"), list, used, 1800, false, file_rows,
+ *                                   8 * OX_ROW, index, 1, fates, 2, confirmations, 4);
+ *     assert(none.refusal == OX_MISSING_LENGTH && none.place == 12);
  */
 ox_plan_answer ox_plan(const char *text, size_t length, const uint8_t *list, size_t list_length, int64_t window,
                        bool download, uint32_t *table, size_t numbers, ox_contact *index, size_t contacts,

@@ -1,7 +1,8 @@
 /* What an importer in C does before it imports: it tells what importing a file would do.
  *   preview FILE [LOG]    both ADIF; the contacts of LOG are those that the log has already, by default none
  *   preview --self-test   every call of the library, see selftest.c
- * It prints a line a record, as showplan does, with the reason in words; what would be confirmed; and the summary.
+ * It prints a line a record, as showplan does, with the reason in words; what would be confirmed; and the summary. Of a
+ * refused file it prints the number of the refusal and the place, as showplan does, with the meaning in words.
  * Exit status: 0 previewed, 1 refused, 2 bad usage, an unreadable file or no memory. */
 #include "oxbreathe.h"
 #include <inttypes.h>
@@ -86,11 +87,12 @@ static size_t tags_in(text t) {
     return tags;
 }
 
-/* The number of a refusal and what it means, with the field and the place where the library tells them. */
+/* The number of a refusal, its place in the file and what it means, with the field where the library tells it. */
 static int refused(text t, ox_read_answer why) {
-    printf("refused %" PRIu32 ": %s: %s", why.refusal, t.path, refusals[why.refusal]);
-    if (why.refusal == OX_NOT_UTF8)
-        printf(", byte %zu", why.place);
+    printf("refused %" PRIu32, why.refusal);
+    if (why.refusal >= OX_NOT_UTF8 && why.refusal <= OX_FEW_ROWS)
+        printf(" %zu", why.place);
+    printf(": %s: %s", t.path, refusals[why.refusal]);
     if (why.refusal >= OX_MISSING_LENGTH && why.refusal <= OX_CUT_CHARACTER)
         printf(", field %.*s", (int)why.name_length, t.bytes + why.name);
     if (why.refusal == OX_TRUNCATED_VALUE)

@@ -148,55 +148,94 @@ static void frequencies(void) {
     CHECK(is_output(out, sizeof out, ox_hz_to_mhz(8589934591999999, out, 17).length, "8589934591.999999"));
 }
 
-/* Each refusal of the reader, and that it leaves the table zero. */
+/* Two contacts of W1AW, with the ids 7 and 9; gives the list's length. */
+static size_t list_of_two(uint8_t *list, size_t room) {
+#define REST OX_TEXT("40m"), OX_TEXT("SSB")
+    ox_append_answer list_is = ox_contacts_start(list, room);
+    list_is = ox_contacts_append(list, room, list_is.length, 0, 0, 7, OX_LOTW, OX_TEXT("W1AW"), OX_TEXT("20260301"),
+                                 OX_TEXT("1200"), REST);
+    list_is = ox_contacts_append(list, room, list_is.length, 1, 7, 9, 0, OX_TEXT("W1AW"), OX_TEXT("20260301"),
+                                 OX_TEXT("1800"), REST);
+    return list_is.length;
+#undef REST
+}
+
+/* A reading is refused, and so is a plan against two contacts; both leave what they were lent zero. */
+static void refused(const char *text, size_t length, uint32_t *table, size_t numbers, ox_read_answer why) {
+    memset(table, 0xEE, numbers * sizeof *table);
+    ox_read_answer read = ox_read(text, length, table, numbers);
+    CHECK(read.refusal == why.refusal && read.place == why.place);
+    CHECK(read.name == why.name && read.name_length == why.name_length);
+    CHECK(read.wanted == why.wanted && read.left == why.left && read.records == 0 && read.rows == 0);
+    CHECK(all_are(table, numbers * sizeof *table, 0));
+
+    uint8_t list[96];
+    size_t list_length = list_of_two(list, sizeof list);
+    ox_contact index[2];
+    ox_fate_row fates[2];
+    ox_confirmation_row confirmations[2];
+    memset(table, 0xEE, numbers * sizeof *table);
+    FILL(index);
+    FILL(fates);
+    FILL(confirmations);
+    ox_plan_answer plan = ox_plan(text, length, list, list_length, 1800, false, table, numbers, index, 2, fates, 2,
+                                  confirmations, 2);
+    CHECK(plan.refusal == why.refusal && plan.place == why.place);
+    CHECK(plan.name == why.name && plan.name_length == why.name_length);
+    CHECK(plan.wanted == why.wanted && plan.left == why.left && plan.records == 0 && plan.contacts == 0);
+    CHECK(all_are(table, numbers * sizeof *table, 0) && IS_ZERO(index) && IS_ZERO(fates) && IS_ZERO(confirmations));
+}
+
+/* Each refusal of the reader but for those of too much, with the place of the tag or of the end. */
 static void refused_readings(void) {
     static const struct {
         const char *text;
-        uint32_t refusal;
-        size_t place, name, name_length;
-        uint64_t wanted, left;
+        ox_read_answer why;
     } cases[] = {
-        {"<A:1>x<EOR>\377", OX_NOT_UTF8, 11, 0, 0, 0, 0},
-        {"<A:1>x<EOR><A", OX_UNTERMINATED_TAG, 0, 0, 0, 0, 0},
-        {"<A:1>x<EOR>< AB >x", OX_MISSING_LENGTH, 0, 13, 2, 0, 0},
-        {"<A:18446744073709551616>x", OX_BAD_LENGTH, 0, 1, 1, 0, 0},
-        {"<A:18446744073709551615>x", OX_TRUNCATED_VALUE, 0, 1, 1, UINT64_MAX, 1},
-        {"<A:1>\303\251<EOR>", OX_CUT_CHARACTER, 0, 1, 1, 0, 0},
-        {"<A:1>x<B:1>y<C:1>z<D:1>w<EOR>", OX_FEW_ROWS, 0, 0, 0, 0, 0},
+        {"<A:1>x<EOR>\377", {OX_NOT_UTF8, 11, 0, 0, 0, 0, 0, 0}},
+        {"<A:1>x<EOR><A", {OX_UNTERMINATED_TAG, 11, 0, 0, 0, 0, 0, 0}},
+        {"<A:1>x<EOR>< AB >x", {OX_MISSING_LENGTH, 11, 13, 2, 0, 0, 0, 0}},
+        {"<A:18446744073709551616>x", {OX_BAD_LENGTH, 0, 1, 1, 0, 0, 0, 0}},
+        {"\303\251 <:x>", {OX_BAD_LENGTH, 3, 0, 0, 0, 0, 0, 0}},
+        {"<N:3><B><A:18446744073709551615>x", {OX_TRUNCATED_VALUE, 8, 9, 1, UINT64_MAX, 1, 0, 0}},
+        {"first <A:1>\303\251<EOR>", {OX_CUT_CHARACTER, 6, 7, 1, 0, 0, 0, 0}},
+        {"<A:1>x<B:1>y<C:1>z<D:1>w<EOR>", {OX_FEW_ROWS, 24, 0, 0, 0, 0, 0, 0}},
+        {"<A:1>x<EOR><A:1>y<B:1>z<C:1>w", {OX_FEW_ROWS, 29, 0, 0, 0, 0, 0, 0}},
+        {"<A:1>x<EOR><A:1>y<B:1>z<C:1>w<APP_LOTW_EOF> more", {OX_FEW_ROWS, 48, 0, 0, 0, 0, 0, 0}},
     };
-    for (size_t i = 0; i < sizeof cases / sizeof *cases; i++) {
-        uint32_t table[3 * OX_ROW + 1];
-        FILL(table);
-        ox_read_answer r = ox_read(cases[i].text, strlen(cases[i].text), table, 3 * OX_ROW + 1);
-        CHECK(r.refusal == cases[i].refusal && r.place == cases[i].place);
-        CHECK(r.name == cases[i].name && r.name_length == cases[i].name_length);
-        CHECK(r.wanted == cases[i].wanted && r.left == cases[i].left && r.records == 0 && r.rows == 0);
-        CHECK(IS_ZERO(table));
-    }
-    uint32_t table[OX_ROW];
-    FILL(table);
-    CHECK(ox_read(TOO_LONG, table, OX_ROW).refusal == OX_TOO_LONG && IS_ZERO(table));
+    uint32_t table[3 * OX_ROW + 1];
+    for (size_t i = 0; i < sizeof cases / sizeof *cases; i++)
+        refused(cases[i].text, strlen(cases[i].text), table, 3 * OX_ROW + 1, cases[i].why);
+    ox_read_answer longer = {OX_TOO_LONG, 0, 0, 0, 0, 0, 0, 0};
+    refused(TOO_LONG, table, OX_ROW, longer);
 }
 
-/* 257 names in one record, and 65,536 records. */
+/* 257 names in one record and in a header, and 65,536 records, the last of which a tag closes, the end, or an APP_LOTW_EOF. */
 static void too_many(void) {
     static char text[OX_MOST_RECORDS * 16];
     static uint32_t table[(OX_MOST_RECORDS + 1) * OX_ROW];
-    size_t length = 0;
-    for (int i = 0; i <= OX_MOST_NAMES; i++) {
-        if (i == OX_MOST_NAMES) {
-            FILL(table);
-            CHECK(ox_read(text, length, table, sizeof table / 4).refusal == OX_ACCEPTED && IS_ZERO(table));
-        }
+    size_t length = 0, numbers = sizeof table / sizeof *table;
+    ox_read_answer names = {OX_MANY_NAMES, 0, 0, 0, 0, 0, 0, 0}, records = {OX_MANY_RECORDS, 0, 0, 0, 0, 0, 0, 0};
+    for (int i = 0; i < OX_MOST_NAMES; i++)
         length += (size_t)sprintf(text + length, "<A%d:0>", i);
-    }
     FILL(table);
-    CHECK(ox_read(text, length, table, sizeof table / 4).refusal == OX_MANY_NAMES && IS_ZERO(table));
+    CHECK(ox_read(text, length, table, numbers).refusal == OX_ACCEPTED && IS_ZERO(table));
+    names.place = length;
+    length += (size_t)sprintf(text + length, "<A%d:0>", OX_MOST_NAMES);
+    refused(text, length, table, numbers, names);
+    length += (size_t)sprintf(text + length, "<EOH><A:0><EOR>");
+    refused(text, length, table, numbers, names);
+
     length = 0;
-    for (int i = 0; i <= OX_MOST_RECORDS; i++)
+    for (int i = 0; i < OX_MOST_RECORDS; i++)
         length += (size_t)sprintf(text + length, "<A:0><EOR>");
-    CHECK(ox_read(text, length - 10, table, sizeof table / 4).records == OX_MOST_RECORDS);
-    CHECK(ox_read(text, length, table, sizeof table / 4).refusal == OX_MANY_RECORDS && IS_ZERO(table));
+    CHECK(ox_read(text, length, table, numbers).records == OX_MOST_RECORDS);
+    length += (size_t)sprintf(text + length, "<A:0>");
+    records.place = length;
+    refused(text, length, table, numbers, records);
+    refused(text, length + (size_t)sprintf(text + length, "<EOR> more"), table, numbers, records);
+    records.place += (size_t)sprintf(text + length, "<APP_LOTW_EOF> more");
+    refused(text, records.place, table, numbers, records);
 }
 
 static void reading(void) {
@@ -394,18 +433,6 @@ static void duplicates(void) {
 #undef C
 }
 
-/* Two contacts of W1AW, with the ids 7 and 9; gives the list's length. */
-static size_t list_of_two(uint8_t *list, size_t room) {
-#define REST OX_TEXT("40m"), OX_TEXT("SSB")
-    ox_append_answer list_is = ox_contacts_start(list, room);
-    list_is = ox_contacts_append(list, room, list_is.length, 0, 0, 7, OX_LOTW, OX_TEXT("W1AW"), OX_TEXT("20260301"),
-                                 OX_TEXT("1200"), REST);
-    list_is = ox_contacts_append(list, room, list_is.length, 1, 7, 9, 0, OX_TEXT("W1AW"), OX_TEXT("20260301"),
-                                 OX_TEXT("1800"), REST);
-    return list_is.length;
-#undef REST
-}
-
 static void lists(void) {
     uint8_t list[96];
     FILL(list);
@@ -534,13 +561,8 @@ static void plans(void) {
     /* what is lent is zero after each refusal */
     plan = planned(&t, OX_TEXT(file), list, length - 1, false, 5, 2);
     CHECK(plan.refusal == OX_MALFORMED_LIST && all_are(&t, sizeof t, 0));
-    plan = planned(&t, OX_TEXT("<CALL:9>W1AW"), list, length, false, 5, 2);
-    CHECK(plan.refusal == OX_TRUNCATED_VALUE && plan.name == 1 && plan.name_length == 4 && plan.wanted == 9 &&
-          plan.left == 4 && plan.records == 0 && plan.contacts == 0 && all_are(&t, sizeof t, 0));
-    plan = planned(&t, OX_TEXT("\377"), list, length, false, 5, 2);
-    CHECK(plan.refusal == OX_NOT_UTF8 && plan.place == 0 && all_are(&t, sizeof t, 0));
-    plan = planned(&t, TOO_LONG, list, length, false, 5, 2);
-    CHECK(plan.refusal == OX_TOO_LONG && all_are(&t, sizeof t, 0));
+    plan = planned(&t, OX_TEXT("first <CALL:9>W1AW"), list, length - 1, false, 5, 2);
+    CHECK(plan.refusal == OX_MALFORMED_LIST && plan.place == 0 && plan.name == 0 && plan.wanted == 0);
     plan = planned(&t, OX_TEXT(file), list, length, false, 4, 2);
     CHECK(plan.refusal == OX_SHORT_TABLE && IS_ZERO(t.table) && IS_ZERO(t.index) && IS_ZERO(t.confirmations));
     plan = planned(&t, OX_TEXT(file), list, length, false, 5, 0);

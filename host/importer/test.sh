@@ -33,7 +33,7 @@ unexchanged() { program exchange --self-test >/dev/null; }
 # shellcheck disable=SC2086
 exchanged() { env EXCHANGE="$1" $run "$programs/exchange" --self-test | grep -q -x '[0-9]* passed, [1-9][0-9]* failed'; }
 shown() {
-    program preview "$1" | sed 's/^\([0-9]* unusable [0-9]\) (.*)$/\1/; s/^\(refused [0-9]*\):.*/\1/' | cmp - "${1%.adi}.txt"
+    program preview "$1" | sed 's/^\([0-9]* unusable [0-9]\) (.*)$/\1/; s/^\(refused [0-9 ]*\):.*/\1/' | cmp - "${1%.adi}.txt"
 }
 
 checks examples
