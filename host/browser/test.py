@@ -268,10 +268,10 @@ def refused(browser):
         browser.size(width)
         browser.open("refused.html")
         text = browser.ask("document.querySelector('main').innerText")
-        told = ["Refused 6", "samples/wrong-length.adi", "field QTH, line 4, column 78, 900 bytes wanted, 95 left", "Count the bytes of the value"]
+        told = ["Refused 6", "samples/wrong-length.adi", "field QTH, line 4, column 77, 900 bytes wanted, 95 left", "Count the bytes of the value"]
         for part in told:
             check(f"refused at {width} px: {part}", part in text, text)
-        same(f"refused at {width} px: mark", browser.ask("document.querySelector('pre mark').innerText"), "QTH")
+        same(f"refused at {width} px: mark", browser.ask("document.querySelector('pre mark').innerText"), "<QTH")
         check(f"refused at {width} px: excerpt", browser.ask("document.querySelector('pre').textContent").endswith("<QTH:900>Odense <EOR>"))
         seen = browser.ask("""(() => { const { left, right, height } = document.querySelector('mark').getBoundingClientRect();
             return left >= 0 && right <= innerWidth && height > 8 })()""")

@@ -55,7 +55,8 @@ planned() {
     ox preview "$1" --json 2>/dev/null | sed -n '
         s/^    {"number": \([0-9]*\), .*"fate": "\([a-z-]*\)", "reason": \([0-9]\), "why": "[^"]*"},\{0,1\}$/\1 \2 \3/p
         s/^  "summary": "\(.*\)"$/\1/p
-        s/^  "refused": \([0-9]*\),$/refused \1/p' | cmp - "${1%.adi}.txt"
+        /^  "refused": /{ s/[^0-9]//g; h; }
+        /^  "place": /{ s/[^0-9]//g; H; g; s/\(.*\)\n/refused \1 /p; }' | cmp - "${1%.adi}.txt"
 }
 for text in samples/plans/*.adi; do counted "$text" planned "$text"; done
 
