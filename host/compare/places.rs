@@ -19,7 +19,7 @@ fn behind(before: &str, rest: &[u8], rows: usize, refusal: u32, length: Option<u
     Refused { text, rows, refusal, at }
 }
 
-/// Comments, fields, values that hold a `<` or whole tags, a record, a header, and in most of these a character of several bytes.
+/// Comments, fields, values that hold a `<` or whole tags, a record, a header; and characters of several bytes in them.
 const BEFORE: [&str; 11] = [
     "", "a comment\n", "> é: 日本>\r\n", "<A:1>x ", "<é:5>日é", "<A:1>x<EOR>\n", "<NOTE:1><", "<NOTE:5><EOR>",
     "<NOTE:13><EOR><CALL:9>", "<NOTE:9>é<B><C:x", "<VER:5>3.1.6 <EOH>\n",
