@@ -284,7 +284,7 @@ fn dated(text: &str, rows: &[&[u32]], service: u32) -> (usize, usize) {
 }
 
 /// The refusals in their order, and what a call leaves.
-fn expected(case: &Case, rooms: Rooms) -> (Left, Option<Theirs>) {
+fn expected(case: &Case, rooms: Rooms) -> (Left, Result<Theirs, Refusal>) {
     let mut left = Left {
         answer: PlanAnswer::default(),
         table: vec![0; rooms.numbers],
@@ -294,7 +294,7 @@ fn expected(case: &Case, rooms: Rooms) -> (Left, Option<Theirs>) {
     };
     let mut refuse = |refusal| {
         left.answer.refusal = refusal;
-        (left.clone(), None)
+        (left.clone(), Err(rust::refusal(refusal, 0)))
     };
     let contacts: Vec<Contact> = match contacts::read(&case.list) {
         Ok(contacts) => contacts.into_iter().map(|(_, contact)| contact).collect(),
@@ -307,7 +307,7 @@ fn expected(case: &Case, rooms: Rooms) -> (Left, Option<Theirs>) {
     if read.refusal != 0 {
         let ReadAnswer { refusal, place, name, name_length, wanted, left: behind, .. } = read;
         left.answer = PlanAnswer { refusal, place, name, name_length, wanted, left: behind, ..PlanAnswer::default() };
-        return (left, None);
+        return (left, Err(reading::refusal(&read)));
     }
     if read.records > rooms.fates {
         return refuse(19);
@@ -335,19 +335,13 @@ fn expected(case: &Case, rooms: Rooms) -> (Left, Option<Theirs>) {
     for (row, &(id, service, place, length)) in left.confirmations.iter_mut().zip(&theirs.confirmations) {
         *row = [id as u32, (id >> 32) as u32, service, place as u32, length as u32];
     }
-    (left, Some(theirs))
+    (left, Ok(theirs))
 }
 
 /// What the original makes of a case, and the answer that goes with it, or the refusal.
 pub fn made(case: &Case) -> Result<(PlanAnswer, Theirs), Refusal> {
     let (left, theirs) = expected(case, enough(case));
-    theirs.map(|theirs| (left.answer, theirs)).ok_or_else(|| refusal(&left.answer))
-}
-
-/// The refusal that an answer tells.
-fn refusal(answer: &PlanAnswer) -> Refusal {
-    let PlanAnswer { refusal, place, name, name_length, wanted, left, .. } = *answer;
-    Refusal { name_place: name, name_length, wanted, left, ..rust::refusal(refusal, place) }
+    theirs.map(|theirs| (left.answer, theirs))
 }
 
 /// Rooms that a plan of the case can do with.
@@ -370,13 +364,13 @@ fn same(g: &mut Group, case: &Case, rooms: Rooms) -> Option<Theirs> {
     g.same(case, ours.confirmations, expected.confirmations);
     g.same(case, ours.table, expected.table);
     g.same(case, ours.index, expected.index);
-    if let Some(theirs) = &theirs {
+    if let Ok(theirs) = &theirs {
         let mut out = [0; 268];
         let Written { refusal, length } = sys::plan_summary(ours.answer.counts, &mut out);
         let line = String::from_utf8_lossy(&out[..length]).into_owned();
         g.same(case, (refusal, line), (0, theirs.plan.summary()));
     }
-    theirs
+    theirs.ok()
 }
 
 /// The fates' table so that a difference can be read: a fate and a reason a row, and what else is not zero.
@@ -563,9 +557,12 @@ fn wrapped(g: &mut Group) {
         let call = if *download { plan::plan_download } else { plan::plan };
         let ours = call(text, list, *window);
         let (expected, theirs) = expected(&case, enough(&case));
-        let Some(theirs) = theirs else {
-            g.same(&case, ours.map(|_| ()), Err(refusal(&expected.answer)));
-            continue;
+        let theirs = match theirs {
+            Ok(theirs) => theirs,
+            Err(refusal) => {
+                g.same(&case, ours.map(|_| ()), Err(refusal));
+                continue;
+            }
         };
         let Ok(ours) = ours else {
             g.same(&case, ours.map(|_| ()), Ok(()));

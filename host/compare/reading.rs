@@ -48,7 +48,7 @@ pub fn expected(text: &[u8], numbers: usize) -> (ReadAnswer, Vec<u32>) {
 }
 
 /// The refusal that an answer tells.
-fn refusal(answer: &ReadAnswer) -> Refusal {
+pub fn refusal(answer: &ReadAnswer) -> Refusal {
     let ReadAnswer { refusal, place, name, name_length, wanted, left, .. } = *answer;
     Refusal { name_place: name, name_length, wanted, left, ..rust::refusal(refusal, place) }
 }

@@ -210,7 +210,7 @@ static void refused_readings(void) {
     refused(TOO_LONG, table, OX_ROW, longer);
 }
 
-/* 257 names in one record and in a header, and 65,536 records, the last of which a tag closes, the end, or an APP_LOTW_EOF. */
+/* 257 names in one record and in a header, and 65,536 records, the last closed by the end, EOR or APP_LOTW_EOF. */
 static void too_many(void) {
     static char text[OX_MOST_RECORDS * 16];
     static uint32_t table[(OX_MOST_RECORDS + 1) * OX_ROW];
