@@ -39,8 +39,8 @@ module _ (s : List ℕ) (room : ℕ) where
   by-on at hand done End p = tt
   by-on at hand done Eof p = tt
   by-on at hand done (Eoh next) p = p
-  by-on at hand done (Eor next) p = onto-on (length s) at next (p .0) (p .1) (act (rows s) room hand done eor)
-  by-on at hand done (Field a k v n) p = onto-on (length s) at (v + n) (p .0) (p .1) (act (rows s) room hand done (field (a ∷ k ∷ v ∷ n ∷ [])))
+  by-on at hand done (Eor i next) p = onto-on (length s) at next (p .0) (p .1) (act (rows s i) room hand done eor)
+  by-on at hand done (Field i a k v n) p = onto-on (length s) at (v + n) (p .0) (p .1) (act (rows s i) room hand done (field (a ∷ k ∷ v ∷ n ∷ [])))
   by-on at hand done (Refused why) p = tt
 
   pub forward : (at : ℕ) (st : State) → Onward (length s) at (readBy s room (st .0) (st .1) (tagAt s at))
@@ -58,30 +58,31 @@ module _ (s : List ℕ) (room : ℕ) (u : Utf8 s) where
   abbrev ψ : Refusal → Why
   ψ = toldBy s
 
-  same : Same φ ψ (rows s) plain
-  same = record { names = λ f. refl; eight = refl; nine = refl; ten = refl }
+  -- a place is not told by the grammar
+  pub same : (i : ℕ) → Same φ ψ (rows s i) plain
+  same i = record { names = λ f. refl; eight = refl; nine = refl; ten = refl }
 
   abbrev told : List Row → List (List Row) → Items → Ending Why → Outcome Grammar.Field Why
   told hand done is e = meaning plain room (map φ hand) (map (map φ) done) is e
 
   -- an item, and the text from `next` on
-  item : (next : ℕ) (hand : List Row) (done : List (List Row)) (i : Item Row) (is : Items) (e : Ending Why)
+  item : (i next : ℕ) (hand : List Row) (done : List (List Row)) (x : Item Row) (is : Items) (e : Ending Why)
       → ((h : List Row) (d : List (List Row)) → mapOutcome φ ψ (readRun s room next (h, d)) ≡ told h d is e)
-      → mapOutcome φ ψ (follow (readRun s room) (onto next (act (rows s) room hand done i))) ≡ told hand done (mapItem φ ψ i ∷ is) e
-  item next hand done i is e k =
-      ap (mapOutcome φ ψ) (follow-onto (readRun s room) next (act (rows s) room hand done i))
-      ∙ then-map φ ψ (act (rows s) room hand done i) (λ h d. readRun s room next (h, d)) _ k
-      ∙ ap (λ (o : Turn Grammar.Field Why). then o (λ h d. meaning plain room h d is e)) (act-map φ ψ (rows s) plain same room hand done i)
+      → mapOutcome φ ψ (follow (readRun s room) (onto next (act (rows s i) room hand done x))) ≡ told hand done (mapItem φ ψ x ∷ is) e
+  item i next hand done x is e k =
+      ap (mapOutcome φ ψ) (follow-onto (readRun s room) next (act (rows s i) room hand done x))
+      ∙ then-map φ ψ (act (rows s i) room hand done x) (λ h d. readRun s room next (h, d)) _ k
+      ∙ ap (λ (o : Turn Grammar.Field Why). then o (λ h d. meaning plain room h d is e)) (act-map φ ψ (rows s i) plain (same i) room hand done x)
 
   -- the row of a field
-  abbrev row-at : (at : ℕ) (t rest : List ℕ) → Tagged (drop at s) t rest → List ℕ → Row
+  abbrev pub row-at : (at : ℕ) (t rest : List ℕ) → Tagged (drop at s) t rest → List ℕ → Row
   row-at at t rest U v = (namePlace (TagSays.inner s at t rest U) t) ∷ nameLength t ∷ TagSays.next s at t rest U ∷ length v ∷ []
 
   module _ (at : ℕ) (t rest : List ℕ) (U : Tagged (drop at s) t rest) (n l : List ℕ) (z : Sized t n l) (k : kindOf (trimmed n) ≡ FieldName) where
     named : capitals (part s (namePlace (TagSays.inner s at t rest U) t) (nameLength t)) ≡ capitals (trimmed n)
     named = ap capitals (TagSays.name-is s at t rest U n (colon ∷ z .more) (TagSays.first s at t rest U n l z k) (z .is))
 
-    row-is : (v more : List ℕ) → unsignedOf (trimmed l) ≡ Is (length v) → rest ≡ v ++ more
+    pub row-is : (v more : List ℕ) → unsignedOf (trimmed l) ≡ Is (length v) → rest ≡ v ++ more
         → φ (row-at at t rest U v) ≡ record { name = capitals (trimmed n); value = v }
     unfolding rowName rowValue
     row-is v more g f = rw (named, TagSays.value-is s at t rest U n l z k v more g f)
@@ -90,23 +91,23 @@ module _ (s : List ℕ) (room : ℕ) (u : Utf8 s) where
   pub agree : {text : List ℕ} {is : Items} {e : Ending Why} → Says text is e → (at : ℕ) → drop at s ≡ text
       → (hand : List Row) (done : List (List Row)) → mapOutcome φ ψ (readRun s room at (hand, done)) ≡ told hand done is e
   unfolding byKind
-  agree (over w) at q hand done = rw (turn s room at (hand, done) End (TagSays.tag-none s at (rw q w))) (finish-map φ ψ (rows s) plain same room hand done)
+  agree (over w) at q hand done = rw (turn s room at (hand, done) End (TagSays.tag-none s at (rw q w))) (finish-map φ ψ (rows s (length s)) plain (same (length s)) room hand done)
   agree (eof-tag {t = t} {rest = rest} {n = n} T c k) at q hand done =
       let U : Tagged (drop at s) t rest = rw q T in
-      rw (turn s room at (hand, done) _ (TagSays.by-name s at t rest U n EndOfFile c k)) (finish-map φ ψ (rows s) plain same room hand done)
+      rw (turn s room at (hand, done) _ (TagSays.by-name s at t rest U n EndOfFile c k)) (finish-map φ ψ (rows s (length s)) plain (same (length s)) room hand done)
   agree (eoh-tag {t = t} {rest = rest} {n = n} {is = is} {e = e} T c k r) at q hand done =
       let U : Tagged (drop at s) t rest = rw q T in
       rw (turn s room at (hand, done) _ (TagSays.by-name s at t rest U n EndOfHeader c k))
-      (item (TagSays.next s at t rest U) hand done eoh is e (λ h d. agree r (TagSays.next s at t rest U) (TagSays.drop-next s at t rest U) h d))
+      (item 0 (TagSays.next s at t rest U) hand done eoh is e (λ h d. agree r (TagSays.next s at t rest U) (TagSays.drop-next s at t rest U) h d))
   agree (eor-tag {t = t} {rest = rest} {n = n} {is = is} {e = e} T c k r) at q hand done =
       let U : Tagged (drop at s) t rest = rw q T in
       rw (turn s room at (hand, done) _ (TagSays.by-name s at t rest U n EndOfRecord c k))
-      (item (TagSays.next s at t rest U) hand done eor is e (λ h d. agree r (TagSays.next s at t rest U) (TagSays.drop-next s at t rest U) h d))
+      (item (TagSays.start s at t rest U) (TagSays.next s at t rest U) hand done eor is e (λ h d. agree r (TagSays.next s at t rest U) (TagSays.drop-next s at t rest U) h d))
   agree (field-tag {t = t} {n = n} {l = l} {rest = rest} v more {is = is} {e = e} T z k g f c r) at q hand done =
       let U : Tagged (drop at s) t rest = rw q T in
       let go-on : ℕ = TagSays.next s at t rest U + length v in
       rw (turn s room at (hand, done) _ (TagSays.tag-field s at t rest U n l z k v more g f u c))
-      (item go-on hand done (field (row-at at t rest U v)) is e (λ h d. agree r go-on (TagSays.drop-more s at t rest U n l z k v more g f) h d)
+      (item (TagSays.start s at t rest U) go-on hand done (field (row-at at t rest U v)) is e (λ h d. agree r go-on (TagSays.drop-more s at t rest U n l z k v more g f) h d)
       ∙ ap (λ (x : Grammar.Field). told hand done (field x ∷ is) e) (row-is at t rest U n l z k v more g f))
   agree (unterminated gap t w v f) at q hand done = rw (turn s room at (hand, done) _ (TagSays.tag-unterminated s at gap t w (q ∙ f) v))
   agree (missing {t = t} {rest = rest} T w k) at q hand done =

@@ -55,7 +55,7 @@ module _ (s : List ℕ) where
   unfolding validUpTo
   short = lead-le charLen char-within s
 
-  is-utf8 : ofText s ≡ Accepted → Utf8 s
+  pub is-utf8 : ofText s ≡ Accepted → Utf8 s
   unfolding ofText
   is-utf8 e = by (ltb 16777216 (length s)) (ltb (validUpTo s) (length s)) refl e
     where

@@ -6,3 +6,4 @@ pub mod Total
 pub mod Plainly
 pub mod Ordered
 pub mod Exactly
+pub mod Where

@@ -34,20 +34,23 @@ module _ (s : List ℕ) (at : ℕ) (gap more : List ℕ) (w : Without lt gap) (e
   starts : at + length gap < length s
   starts = omega (arith, length-drop at s, ap length e, length-append gap (lt ∷ more))
 
-  opened : tagAt s at ≡ closedAt s (at + length gap + 1) (ends (other gt) s (at + length gap + 1))
+  opened : tagAt s at ≡ closedAt s (at + length gap) (ends (other gt) s (at + length gap + 1))
   unfolding tagAt openAt
   opened = simp (ends-found s at lt gap more w e, lt-ltb (at + length gap) (length s) starts)
 
-  pub tag-unterminated : Without gt more → tagAt s at ≡ Refused UnterminatedTag
+  pub tag-unterminated : Without gt more → tagAt s at ≡ Refused (UnterminatedTag (at + length gap))
   unfolding closedAt
   tag-unterminated v =
       opened
       ∙ simp (ends-none s (at + length gap + 1) gt (rw (drop-past s at gap more lt e) v), le-ltb (at + length gap + 1 + length (drop (at + length gap + 1) s)) (length s) (omega (arith, length-drop (at + length gap + 1) s)))
 
 module _ (s : List ℕ) (at : ℕ) (t rest : List ℕ) (T : Tagged (drop at s) t rest) where
-  -- where the inside starts, where the ">" stands, and where the text goes on
+  -- where the tag and its inside start, where the ">" stands, and where the text goes on
+  abbrev pub start : ℕ
+  start = at + length (T .gap)
+
   abbrev pub inner : ℕ
-  inner = at + length (T .gap) + 1
+  inner = start + 1
 
   abbrev pub next : ℕ
   next = inner + length t + 1
@@ -67,14 +70,14 @@ module _ (s : List ℕ) (at : ℕ) (t rest : List ℕ) (T : Tagged (drop at s) t
   closing : getD s (inner + length t) 0 ≡ gt
   closing = sym (getD-drop inner s (length t) 0) ∙ rw drop-inner (getD-at t gt rest 0 (length t) refl)
 
-  tag-is : tagAt s at ≡ tagOf s inner t next
+  tag-is : tagAt s at ≡ tagOf s start t next
   unfolding closedAt
   tag-is =
       let z : inner + length t - inner ≡ length t = omega arith in
       opened s at (T .gap) (t ++ gt ∷ rest) (T .comment) (T .is)
       ∙ simp (ends-found s inner gt t rest (T .closed) drop-inner, lt-ltb (inner + length t) (length s) (omega (arith, next-in)), z, drop-inner, take-at t (gt ∷ rest) (length t) refl)
 
-  pub by-name : (n : List ℕ) (k : Kind) → Cut colon t n → kindOf (trimmed n) ≡ k → tagAt s at ≡ byKind s inner t next k
+  pub by-name : (n : List ℕ) (k : Kind) → Cut colon t n → kindOf (trimmed n) ≡ k → tagAt s at ≡ byKind s start t next k
   unfolding tagOf nameOf colonAt
   by-name n k c e = tag-is ∙ rw (cut-is colon c, e)
 
@@ -96,7 +99,7 @@ module _ (s : List ℕ) (at : ℕ) (t rest : List ℕ) (T : Tagged (drop at s) t
           let empty : [] ≡ trimmed n = rw none at (stands n tail c f) in
           rw none empty
 
-  pub tag-missing : Without colon t → kindOf (trimmed t) ≡ FieldName → tagAt s at ≡ Refused (MissingLength (namePlace inner t) (nameLength t))
+  pub tag-missing : Without colon t → kindOf (trimmed t) ≡ FieldName → tagAt s at ≡ Refused (MissingLength start (namePlace inner t) (nameLength t))
   unfolding byKind colonAt
   tag-missing w e = by-name t FieldName (all w) e ∙ simp (front-none colon t w, le-ltb (length t) (length t) (omega arith))
 
@@ -118,15 +121,15 @@ module _ (s : List ℕ) (at : ℕ) (t rest : List ℕ) (T : Tagged (drop at s) t
     unfolding lengthAfter colonAt
     length-is = rw (after, cut-is colon (z .cut))
 
-    pub by-length : tagAt s at ≡ valueOf s (namePlace inner t) (nameLength t) next (unsignedOf (trimmed l))
+    pub by-length : tagAt s at ≡ valueOf s start (namePlace inner t) (nameLength t) next (unsignedOf (trimmed l))
     unfolding byKind
     by-length = by-name n FieldName first e ∙ simp (colon-is, lt-ltb (length n) (length t) within, length-is)
 
-    pub tag-bad : unsignedOf (trimmed l) ≡ Not → tagAt s at ≡ Refused (BadLength (namePlace inner t) (nameLength t))
+    pub tag-bad : unsignedOf (trimmed l) ≡ Not → tagAt s at ≡ Refused (BadLength start (namePlace inner t) (nameLength t))
     unfolding valueOf
     tag-bad q = by-length ∙ rw q
 
-    pub tag-truncated : (k : ℕ) → unsignedOf (trimmed l) ≡ Is k → length rest < k → tagAt s at ≡ Refused (TruncatedValue (namePlace inner t) (nameLength t) k (length rest))
+    pub tag-truncated : (k : ℕ) → unsignedOf (trimmed l) ≡ Is k → length rest < k → tagAt s at ≡ Refused (TruncatedValue start (namePlace inner t) (nameLength t) k (length rest))
     unfolding valueOf
     tag-truncated k q h = by-length ∙ simp (q, left, lt-leb k (length rest) h)
 
@@ -140,7 +143,7 @@ module _ (s : List ℕ) (at : ℕ) (t rest : List ℕ) (T : Tagged (drop at s) t
       pub value-is : take (length v) (drop next s) ≡ v
       value-is = rw (drop-next, f) (take-at v more (length v) refl)
 
-      by-byte : tagAt s at ≡ pick (cont (getD s (next + length v) 0)) (Refused (NonUtf8 (namePlace inner t) (nameLength t))) (Field (namePlace inner t) (nameLength t) next (length v))
+      by-byte : tagAt s at ≡ pick (cont (getD s (next + length v) 0)) (Refused (NonUtf8 start (namePlace inner t) (nameLength t))) (Field start (namePlace inner t) (nameLength t) next (length v))
       unfolding valueOf
       by-byte = by-length ∙ simp (q, left, le-leb (length v) (length rest) (omega (arith, ap length f, length-append v more)))
 
@@ -148,16 +151,16 @@ module _ (s : List ℕ) (at : ℕ) (t rest : List ℕ) (T : Tagged (drop at s) t
         test : utf8 v ≡ pick (cont (getD s (next + length v) 0)) false true
         test = sym (ap utf8 value-is) ∙ value-test s u (inner + length t) (omega (arith, next-in)) closing (length v) more-in
 
-        pub tag-torn : utf8 v ≡ false → tagAt s at ≡ Refused (NonUtf8 (namePlace inner t) (nameLength t))
+        pub tag-torn : utf8 v ≡ false → tagAt s at ≡ Refused (NonUtf8 start (namePlace inner t) (nameLength t))
         tag-torn c = by-byte ∙ by (cont (getD s (next + length v) 0)) (sym test ∙ c)
           where
-            by : (b : Bool) → pick b false true ≡ false → pick b (Refused (NonUtf8 (namePlace inner t) (nameLength t))) (Field (namePlace inner t) (nameLength t) next (length v)) ≡ Refused (NonUtf8 (namePlace inner t) (nameLength t))
+            by : (b : Bool) → pick b false true ≡ false → pick b (Refused (NonUtf8 start (namePlace inner t) (nameLength t))) (Field start (namePlace inner t) (nameLength t) next (length v)) ≡ Refused (NonUtf8 start (namePlace inner t) (nameLength t))
             by true p = refl
             by false p = absurd (let y : _≡_ {A = ℕ} 0 1 = cc in omega arith)
 
-        pub tag-field : utf8 v ≡ true → tagAt s at ≡ Field (namePlace inner t) (nameLength t) next (length v)
+        pub tag-field : utf8 v ≡ true → tagAt s at ≡ Field start (namePlace inner t) (nameLength t) next (length v)
         tag-field c = by-byte ∙ by (cont (getD s (next + length v) 0)) (sym test ∙ c)
           where
-            by : (b : Bool) → pick b false true ≡ true → pick b (Refused (NonUtf8 (namePlace inner t) (nameLength t))) (Field (namePlace inner t) (nameLength t) next (length v)) ≡ Field (namePlace inner t) (nameLength t) next (length v)
+            by : (b : Bool) → pick b false true ≡ true → pick b (Refused (NonUtf8 start (namePlace inner t) (nameLength t))) (Field start (namePlace inner t) (nameLength t) next (length v)) ≡ Field start (namePlace inner t) (nameLength t) next (length v)
             by true p = absurd (let y : _≡_ {A = ℕ} 0 1 = cc in omega arith)
             by false p = refl

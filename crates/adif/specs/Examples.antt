@@ -37,6 +37,6 @@ read : readText text 10 ≡ records (((12 ∷ 1 ∷ 16 ∷ 1 ∷ []) ∷ []) ∷
 unfolding lead ends other run space1 space2 space3 space80 spaceLen spaceBack width trimStart trimEnd trimmed charLen longChar second3 second4 validUpTo raised sameRaised digitsAfter digitsOf leads unsignedOf ofText kindOf colonAt nameAt nameLength namePlace nameOf lengthAfter valueOf byKind tagOf closedAt openAt tagAt rowName readTags readText
 read = refl
 
-too-few : readText text 1 ≡ refused FewRows
+too-few : readText text 1 ≡ refused (FewRows 28)
 unfolding lead ends other run space1 space2 space3 space80 spaceLen spaceBack width trimStart trimEnd trimmed charLen longChar second3 second4 validUpTo raised sameRaised digitsAfter digitsOf leads unsignedOf ofText kindOf colonAt nameAt nameLength namePlace nameOf lengthAfter valueOf byKind tagOf closedAt openAt tagAt rowName readTags readText
 too-few = refl

@@ -3,4 +3,5 @@ pub mod Grammar
 pub mod Reading
 pub mod Told
 pub mod Limits
+pub mod Theorems
 pub mod Examples

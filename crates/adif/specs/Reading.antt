@@ -31,8 +31,9 @@ rowValue s r = part s (getD r 2 0) (getD r 3 0)
 abbrev pub RowsRead : Type 0
 RowsRead = Outcome Row Refusal
 
-abbrev pub rows : List ℕ → Fields Row Refusal
-rows s = record { name = rowName s; many-names = ManyNames; many-records = ManyRecords; few-rows = FewRows }
+-- of a tag at `at`, which is told where one of the limits is passed there
+abbrev pub rows : List ℕ → ℕ → Fields Row Refusal
+rows s at = record { name = rowName s; many-names = ManyNames at; many-records = ManyRecords at; few-rows = FewRows at }
 
 -- the record in hand, and the closed records
 abbrev pub State : Type 0
@@ -42,13 +43,13 @@ abbrev pub onto : ℕ → Turn Row Refusal → Next State RowsRead
 onto next (on hand done) = go next (hand, done)
 onto next (no w) = stop (refused w)
 
--- what the next tag makes of them
+-- what the next tag makes of them. The end and an APP_LOTW_EOF tell the text's length; the header's end refuses nothing
 abbrev pub readBy : List ℕ → ℕ → List Row → List (List Row) → Tag → Next State RowsRead
-readBy s room hand done End = stop (finish (rows s) room hand done)
-readBy s room hand done Eof = stop (finish (rows s) room hand done)
-readBy s room hand done (Eoh next) = onto next (act (rows s) room hand done eoh)
-readBy s room hand done (Eor next) = onto next (act (rows s) room hand done eor)
-readBy s room hand done (Field a k v n) = onto (v + n) (act (rows s) room hand done (field (a ∷ k ∷ v ∷ n ∷ [])))
+readBy s room hand done End = stop (finish (rows s (length s)) room hand done)
+readBy s room hand done Eof = stop (finish (rows s (length s)) room hand done)
+readBy s room hand done (Eoh next) = onto next (act (rows s 0) room hand done eoh)
+readBy s room hand done (Eor at next) = onto next (act (rows s at) room hand done eor)
+readBy s room hand done (Field at a k v n) = onto (v + n) (act (rows s at) room hand done (field (a ∷ k ∷ v ∷ n ∷ [])))
 readBy s room hand done (Refused w) = stop (refused w)
 
 abbrev pub readRun : List ℕ → ℕ → ℕ → State → RowsRead

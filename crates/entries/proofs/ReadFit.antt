@@ -47,12 +47,12 @@ FitNext (go at st) = Held (st .0) (st .1)
 FitNext (stop o) = FitRead o
 
 module _ (s : List ℕ) (room : ℕ) where
-  close-fit : (hand : List Row) (done : List (List Row)) → Held hand done → FitTurn (close (rows s) room hand done)
-  close-fit [] done h = h
-  close-fit (x ∷ xs) done h = by (ltb (length done) 65535) refl (leb (total done + length (x ∷ xs)) room)
+  close-fit : (i : ℕ) (hand : List Row) (done : List (List Row)) → Held hand done → FitTurn (close (rows s i) room hand done)
+  close-fit i [] done h = h
+  close-fit i (x ∷ xs) done h = by (ltb (length done) 65535) refl (leb (total done + length (x ∷ xs)) room)
     where
       by : (t : Bool) → ltb (length done) 65535 ≡ t → (u : Bool)
-          → FitTurn (pick t (pick u (on [] (done ++ ((x ∷ xs) ∷ []))) (no FewRows)) (no ManyRecords))
+          → FitTurn (pick t (pick u (on [] (done ++ ((x ∷ xs) ∷ []))) (no (FewRows i))) (no (ManyRecords i)))
       by true e true =
           let l : length done < 65535 = ltb-true (length done) 65535 e in
           (omega arith, (fit-snoc done (x ∷ xs) (h .1 .0) (omega arith) (h .0), omega (arith, length-append done ((x ∷ xs) ∷ []))))
@@ -63,14 +63,14 @@ module _ (s : List ℕ) (room : ℕ) where
   then-fit (on hand done) h = h .1
   then-fit (no w) h = tt
 
-  finish-fit : (hand : List Row) (done : List (List Row)) → Held hand done → FitRead (finish (rows s) room hand done)
-  finish-fit hand [] h = (tt, omega arith)
-  finish-fit hand (d ∷ ds) h = then-fit (close (rows s) room hand (d ∷ ds)) (close-fit hand (d ∷ ds) h)
+  finish-fit : (i : ℕ) (hand : List Row) (done : List (List Row)) → Held hand done → FitRead (finish (rows s i) room hand done)
+  finish-fit i hand [] h = (tt, omega arith)
+  finish-fit i hand (d ∷ ds) h = then-fit (close (rows s i) room hand (d ∷ ds)) (close-fit i hand (d ∷ ds) h)
 
-  field-fit : (hand : List Row) (done : List (List Row)) (f : Row) → Held hand done → FitTurn (act (rows s) room hand done (field f))
-  field-fit hand done f h = by (leb (length (put (rowName s) f hand)) 256) refl
+  field-fit : (i : ℕ) (hand : List Row) (done : List (List Row)) (f : Row) → Held hand done → FitTurn (act (rows s i) room hand done (field f))
+  field-fit i hand done f h = by (leb (length (put (rowName s) f hand)) 256) refl
     where
-      by : (t : Bool) → leb (length (put (rowName s) f hand)) 256 ≡ t → FitTurn (pick t (on (put (rowName s) f hand) done) (no ManyNames))
+      by : (t : Bool) → leb (length (put (rowName s) f hand)) 256 ≡ t → FitTurn (pick t (on (put (rowName s) f hand) done) (no (ManyNames i)))
       by true e = (leb-true (length (put (rowName s) f hand)) 256 e, h .1)
       by false e = tt
 
@@ -79,12 +79,12 @@ module _ (s : List ℕ) (room : ℕ) where
   onto-fit next (no w) h = tt
 
   read-fit : (hand : List Row) (done : List (List Row)) → Held hand done → (t : Tag) → FitNext (readBy s room hand done t)
-  read-fit hand done h End = finish-fit hand done h
-  read-fit hand done h Eof = finish-fit hand done h
+  read-fit hand done h End = finish-fit (length s) hand done h
+  read-fit hand done h Eof = finish-fit (length s) hand done h
   read-fit hand done h (Eoh next) = (omega arith, h .1)
-  read-fit hand done h (Eor next) = onto-fit next (close (rows s) room hand done) (close-fit hand done h)
-  read-fit hand done h (Field a k v n) =
-      onto-fit (v + n) (act (rows s) room hand done (field (a ∷ k ∷ v ∷ n ∷ []))) (field-fit hand done (a ∷ k ∷ v ∷ n ∷ []) h)
+  read-fit hand done h (Eor i next) = onto-fit next (close (rows s i) room hand done) (close-fit i hand done h)
+  read-fit hand done h (Field i a k v n) =
+      onto-fit (v + n) (act (rows s i) room hand done (field (a ∷ k ∷ v ∷ n ∷ []))) (field-fit i hand done (a ∷ k ∷ v ∷ n ∷ []) h)
   read-fit hand done h (Refused w) = tt
 
   abbrev step : ℕ → State → Next State RowsRead

@@ -11,8 +11,8 @@ use refusals::Refusal;
 use summary::Counts;
 use summary::Line;
 
-// Refusals with their places as in the answer of a reading. Of a plan: the records and the rows they take, the confirmations to
-// record, the list's mark, which the plan keeps, and what it counts.
+// Refusals as in the answer of a reading, with their places in the text, never in the list. Of a plan: the records and the rows they
+// take, the confirmations to record, the list's mark, which the plan keeps, and what it counts.
 #[repr(C)]
 pub struct PlanAnswer {
     pub refusal: u32,

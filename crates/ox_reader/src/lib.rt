@@ -5,7 +5,8 @@ ghost use Rattle.ox_reader.specs.Readings.{unreadOf, ofReading, readAnsw
 use reader::Reading;
 use refusals::Refusal;
 
-// With 2 `place` is the first bad byte's; with 4 to 7 `name` and `name_length` are the place and the length of the tag's name, with 6
+// With 2 `place` is the first bad byte's, with 3 to 8 that of the tag's `<`, with 9 and 10 that of the tag which closed the record, or the
+// text's length; a place may be 0. With 4 to 7 `name` and `name_length` are the place and the length of the tag's name, with 6
 // `wanted` its length's number and `left` the bytes that were there. Of a text that is read, its records and the rows they take.
 #[repr(C)]
 pub struct ReadAnswer {

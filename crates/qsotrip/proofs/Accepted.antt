@@ -51,7 +51,7 @@ taken-is (f ∷ fs) x = ap (either (same (f .name) (capitals x))) (taken-is fs x
 module _ (text : List ℕ) (small : length text ≤ 16777216) (fs : List Field) where
   module _ (n : ℕ) (risen : Bool) (r : Row) (v : rowVerdict text fs n risen r ≡ Accepted) where
     abbrev counting : Verdict
-    counting = pick (leb (countWith text fs n r) 256) Accepted (Refused ManyNames)
+    counting = pick (leb (countWith text fs n r) 256) Accepted (Refused (ManyNames 0))
 
     abbrev naming : Verdict
     naming = pick (writable (nameIn text r)) counting (Refused BadName)
@@ -71,7 +71,7 @@ module _ (text : List ℕ) (small : length text ≤ 16777216) (fs : List Field) 
     has-risen = both-right (both (placed text r) (sound text r)) risen stands
 
     few-names : countWith text fs n r ≤ 256
-    few-names = leb-true _ _ (passed ManyNames (leb (countWith text fs n r) 256) Accepted (onward BadName (writable (nameIn text r)) counting named-well))
+    few-names = leb-true _ _ (passed (ManyNames 0) (leb (countWith text fs n r) 256) Accepted (onward BadName (writable (nameIn text r)) counting named-well))
 
   counts : (n k : ℕ) (r : Row) (es : List Field) → countWith text fs n r + news fs es ≤ k → n + news fs (rowField text r ∷ es) ≤ k
   counts n k r es h = by (takes fs (capitals (nameIn text r))) (rw (taken-is fs (nameIn text r)) at h)

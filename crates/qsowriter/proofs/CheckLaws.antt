@@ -25,8 +25,8 @@ use Rattle.qsowriter.proofs.TakenLaws.{taken-is, count-is}
 
 -- ---- a row, as a row of record 1
 by-tests : (p s o w m : Bool)
-    → pick p (pick s (pick o (pick w (pick m Accepted (Refused ManyNames)) (Refused BadName)) (Refused BadRow)) (Refused BadRow)) (Refused BadRow)
-    ≡ pick (both (both p s) o) (pick w (pick m Accepted (Refused ManyNames)) (Refused BadName)) (Refused BadRow)
+    → pick p (pick s (pick o (pick w (pick m Accepted (Refused (ManyNames 0))) (Refused BadName)) (Refused BadRow)) (Refused BadRow)) (Refused BadRow)
+    ≡ pick (both (both p s) o) (pick w (pick m Accepted (Refused (ManyNames 0))) (Refused BadName)) (Refused BadRow)
 by-tests true true true w m = refl
 by-tests true true false w m = refl
 by-tests true false o w m = refl

@@ -50,7 +50,7 @@ countWith text fs n r = pick (isTaken fs (nameIn text r)) n (n + 1)
 abbrev pub rowVerdict : List ℕ → List Field → ℕ → Bool → Row → Verdict
 rowVerdict text fs n risen r =
     pick (both (both (placed text r) (sound text r)) risen)
-    (pick (writable (nameIn text r)) (pick (leb (countWith text fs n r) 256) Accepted (Refused ManyNames)) (Refused BadName))
+    (pick (writable (nameIn text r)) (pick (leb (countWith text fs n r) 256) Accepted (Refused (ManyNames 0))) (Refused BadName))
     (Refused BadRow)
 
 abbrev pub isAbove : List ℕ → Row → Row → Bool

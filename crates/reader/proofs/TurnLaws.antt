@@ -30,17 +30,17 @@ use Rattle.reader.specs.declared.Turn.{Turn}
 use Rattle.reader.specs.declared.Turn.the-variants.{On, Over}
 
 -- closing a record asks for no name, so the text does not matter
-close-any : (s : List ℕ) (room : ℕ) (hand : List Row) (done : List (List Row)) → close (rows s) room hand done ≡ close (rows []) room hand done
-close-any s room [] done = refl
-close-any s room (h ∷ hs) done = refl
+close-any : (s : List ℕ) (i room : ℕ) (hand : List Row) (done : List (List Row)) → close (rows s i) room hand done ≡ close (rows [] i) room hand done
+close-any s i room [] done = refl
+close-any s i room (h ∷ hs) done = refl
 
-finish-any : (s : List ℕ) (room : ℕ) (hand : List Row) (done : List (List Row)) → finish (rows s) room hand done ≡ finish (rows []) room hand done
-finish-any s room hand [] = refl
-finish-any s room [] (d ∷ ds) = refl
-finish-any s room (h ∷ hs) (d ∷ ds) = refl
+finish-any : (s : List ℕ) (i room : ℕ) (hand : List Row) (done : List (List Row)) → finish (rows s i) room hand done ≡ finish (rows [] i) room hand done
+finish-any s i room hand [] = refl
+finish-any s i room [] (d ∷ ds) = refl
+finish-any s i room (h ∷ hs) (d ∷ ds) = refl
 
 -- the places of a field fit 32 bits
-module _ (text : List ℕ) (at : ℕ) (tag : Tag) (e : tag ≡ tagAt text at) (short : length text ≤ 16777216) (a k v n : ℕ) (h : tag ≡ the-variants.Field a k v n) where
+module _ (text : List ℕ) (at : ℕ) (tag : Tag) (e : tag ≡ tagAt text at) (short : length text ≤ 16777216) (i a k v n : ℕ) (h : tag ≡ the-variants.Field i a k v n) where
   there : (at < v + n) × (v + n ≤ length text) × (a + k ≤ length text)
   there = rw h at (rw (← e) at (ahead text at))
 
@@ -60,16 +60,16 @@ module _ (text : List ℕ) (at : ℕ) (tag : Tag) (e : tag ≡ tagAt text at) (s
   end-fits = omega (arith, there .1)
 
 module _ (text : List ℕ) (at : ℕ) (hand : List Row) (count used : ℕ) (hands : List Row) (before : List ℕ) (tag : Tag) (e : tag ≡ tagAt text at) where
-  module _ (after : List ℕ) (r : Reading) (F : Finishes hand count used before after r) where
+  module _ (after : List ℕ) (r : Reading) (F : Finishes hand count used (length text) before after r) where
     pub turn-end : tag ≡ the-variants.End → Turns text at hand count used hands before after (Over r)
     unfolding Turns Finishes
-    turn-end h was done S = rw (← e, h) (_, refl, rw (finish-any text (length before / 5) hand done) (F was done S))
+    turn-end h was done S = rw (← e, h) (_, refl, rw (finish-any text (length text) (length before / 5) hand done) (F was done S))
 
     pub turn-eof : tag ≡ the-variants.Eof → Turns text at hand count used hands before after (Over r)
     unfolding Turns Finishes
-    turn-eof h was done S = rw (← e, h) (_, refl, rw (finish-any text (length before / 5) hand done) (F was done S))
+    turn-eof h was done S = rw (← e, h) (_, refl, rw (finish-any text (length text) (length before / 5) hand done) (F was done S))
 
-  pub turn-eoh : (next : ℕ) (r : Turn) → tag ≡ the-variants.Eoh next → r ≡ ofKept (Used 0) next count used → Turns text at hand count used hands before before r
+  pub turn-eoh : (next : ℕ) (r : Turn) → tag ≡ the-variants.Eoh next → r ≡ ofKept (Used 0) 0 next count used → Turns text at hand count used hands before before r
   unfolding Turns
   turn-eoh next r h q was done S = rw (← e, h, q) (done, refl, omega arith, S)
 
@@ -77,16 +77,16 @@ module _ (text : List ℕ) (at : ℕ) (hand : List Row) (count used : ℕ) (hand
   unfolding Turns
   turn-refused w h was done S = rw (← e, h) (refused w, refl, (refl, tt))
 
-  module _ (next : ℕ) (h : tag ≡ the-variants.Eor next) (after : List ℕ) (closed : Closed) (C : Closes hand count used before after closed) where
+  module _ (i next : ℕ) (h : tag ≡ the-variants.Eor i next) (after : List ℕ) (closed : Closed) (C : Closes hand count used i before after closed) where
     closed-turn : (was : List ℕ) (x : Closed) (t : Records.Turn Row Refusal) → Closing was after x t → Turned was after hands (ofClosed x next) (onto next t)
     closed-turn was (closing.At n u) t (done, p, S) = rw p (done, refl, omega arith, S)
     closed-turn was (closing.Refused w) t p = rw p (refused w, refl, (refl, tt))
 
     pub turn-eor : (r : Turn) → r ≡ ofClosed closed next → Turns text at hand count used hands before after r
     unfolding Turns Closes
-    turn-eor r q was done S = rw (← e, h, q, close-any text (length before / 5) hand done) (closed-turn was closed _ (C was done S))
+    turn-eor r q was done S = rw (← e, h, q, close-any text i (length before / 5) hand done) (closed-turn was closed _ (C was done S))
 
-  module _ (a k v n : ℕ) (h : tag ≡ the-variants.Field a k v n) (kept : Kept) (I : Inserted kept (put (rowName text) (a ∷ k ∷ v ∷ n ∷ []) hand) hands)
+  module _ (i a k v n : ℕ) (h : tag ≡ the-variants.Field i a k v n) (kept : Kept) (I : Inserted kept (put (rowName text) (a ∷ k ∷ v ∷ n ∷ []) hand) hands)
       (entry : List Row) (k₁ : length hands ≡ length entry) (k₂ : length entry ≡ 256) where
     l : length hands ≡ 256
     l = k₁ ∙ k₂
@@ -95,14 +95,14 @@ module _ (text : List ℕ) (at : ℕ) (hand : List Row) (count used : ℕ) (hand
     row = a ∷ k ∷ v ∷ n ∷ []
 
     kept-turn : (was : List ℕ) (done : List (List Row)) → Stands was before count used done → (x : Kept) → Inserted x (put (rowName text) row hand) hands
-        → Turned was before hands (ofKept x (v + n) count used) (onto (v + n) (act (rows text) (length before / 5) hand done (field row)))
+        → Turned was before hands (ofKept x i (v + n) count used) (onto (v + n) (act (rows text i) (length before / 5) hand done (field row)))
     kept-turn was done S (Used m) J =
         let w = used-is m (put (rowName text) row hand) hands J in
         rw (le-leb (length (put (rowName text) row hand)) 256 (omega (arith, w .1))) (done, rw (w .2), omega (arith, w .0, w .1), S)
     kept-turn was done S Full J =
-        rw (rw l at (full-is (put (rowName text) row hand) hands J)) (refused ManyNames, refl, (refl, tt))
+        rw (rw l at (full-is (put (rowName text) row hand) hands J)) (refused (ManyNames i), refl, (refl, tt))
 
-    pub turn-field : (r : Turn) → r ≡ ofKept kept (v + n) count used → Turns text at hand count used hands before before r
+    pub turn-field : (r : Turn) → r ≡ ofKept kept i (v + n) count used → Turns text at hand count used hands before before r
     unfolding Turns
     turn-field r q was done S = rw (← e, h, q) (kept-turn was done S kept I)
 
@@ -114,9 +114,9 @@ module _ (closed : Closed) (next : ℕ) where
   pub closed-refused : (w : Refusal) → closed ≡ closing.Refused w → Over (Refused w) ≡ ofClosed closed next
   closed-refused w e = rw e refl
 
-module _ (kept : Kept) (next count used : ℕ) where
-  pub kept-used : (held : ℕ) → kept ≡ Used held → On next held count used ≡ ofKept kept next count used
+module _ (kept : Kept) (at next count used : ℕ) where
+  pub kept-used : (held : ℕ) → kept ≡ Used held → On next held count used ≡ ofKept kept at next count used
   kept-used held e = rw e refl
 
-  pub kept-full : kept ≡ Full → Over (Refused ManyNames) ≡ ofKept kept next count used
+  pub kept-full : kept ≡ Full → Over (Refused (ManyNames at)) ≡ ofKept kept at next count used
   kept-full e = rw e refl

@@ -34,17 +34,17 @@ two-records = (refl, refl)
 
 -- 4 and 3
 -- <A>x
-no-length : Reads (60 ∷ 65 ∷ 62 ∷ 120 ∷ []) (Refused (MissingLength 1 1)) (0 ∷ 0 ∷ 0 ∷ 0 ∷ 0 ∷ 0 ∷ 0 ∷ 0 ∷ 0 ∷ 0 ∷ 0 ∷ 0 ∷ [])
+no-length : Reads (60 ∷ 65 ∷ 62 ∷ 120 ∷ []) (Refused (MissingLength 0 1 1)) (0 ∷ 0 ∷ 0 ∷ 0 ∷ 0 ∷ 0 ∷ 0 ∷ 0 ∷ 0 ∷ 0 ∷ 0 ∷ 0 ∷ [])
 unfolding lead ends other run space1 space2 space3 space80 spaceLen spaceBack width trimStart trimEnd trimmed charLen longChar second3 second4 validUpTo raised sameRaised digitsAfter digitsOf leads unsignedOf ofText kindOf colonAt nameAt nameLength namePlace nameOf lengthAfter valueOf byKind tagOf closedAt openAt tagAt rowName readTags readText answerTo tableAfter
 no-length = (refl, refl)
 
 -- <A
-no-end : Reads (60 ∷ 65 ∷ []) (Refused UnterminatedTag) (0 ∷ 0 ∷ 0 ∷ 0 ∷ 0 ∷ 0 ∷ 0 ∷ 0 ∷ 0 ∷ 0 ∷ 0 ∷ 0 ∷ [])
+no-end : Reads (60 ∷ 65 ∷ []) (Refused (UnterminatedTag 0)) (0 ∷ 0 ∷ 0 ∷ 0 ∷ 0 ∷ 0 ∷ 0 ∷ 0 ∷ 0 ∷ 0 ∷ 0 ∷ 0 ∷ [])
 unfolding lead ends other run space1 space2 space3 space80 spaceLen spaceBack width trimStart trimEnd trimmed charLen longChar second3 second4 validUpTo raised sameRaised digitsAfter digitsOf leads unsignedOf ofText kindOf colonAt nameAt nameLength namePlace nameOf lengthAfter valueOf byKind tagOf closedAt openAt tagAt rowName readTags readText answerTo tableAfter
 no-end = (refl, refl)
 
 -- 10: three rows wanted, and twelve numbers are two
 -- <A:0><B:0><C:0><EOR>
-few-rows : Reads (60 ∷ 65 ∷ 58 ∷ 48 ∷ 62 ∷ 60 ∷ 66 ∷ 58 ∷ 48 ∷ 62 ∷ 60 ∷ 67 ∷ 58 ∷ 48 ∷ 62 ∷ 60 ∷ 69 ∷ 79 ∷ 82 ∷ 62 ∷ []) (Refused FewRows) (0 ∷ 0 ∷ 0 ∷ 0 ∷ 0 ∷ 0 ∷ 0 ∷ 0 ∷ 0 ∷ 0 ∷ 0 ∷ 0 ∷ [])
+few-rows : Reads (60 ∷ 65 ∷ 58 ∷ 48 ∷ 62 ∷ 60 ∷ 66 ∷ 58 ∷ 48 ∷ 62 ∷ 60 ∷ 67 ∷ 58 ∷ 48 ∷ 62 ∷ 60 ∷ 69 ∷ 79 ∷ 82 ∷ 62 ∷ []) (Refused (FewRows 15)) (0 ∷ 0 ∷ 0 ∷ 0 ∷ 0 ∷ 0 ∷ 0 ∷ 0 ∷ 0 ∷ 0 ∷ 0 ∷ 0 ∷ [])
 unfolding lead ends other run space1 space2 space3 space80 spaceLen spaceBack width trimStart trimEnd trimmed charLen longChar second3 second4 validUpTo raised sameRaised digitsAfter digitsOf leads unsignedOf ofText kindOf colonAt nameAt nameLength namePlace nameOf lengthAfter valueOf byKind tagOf closedAt openAt tagAt rowName readTags readText answerTo tableAfter
 few-rows = (refl, refl)

@@ -33,17 +33,17 @@ abbrev pub Closing : List ℕ → List ℕ → Closed → Records.Turn Row Refus
 Closing was table (the-variants.At count used) t = (done : List (List Row)) × (t ≡ on [] done) × Stands was table count used done
 Closing was table (the-variants.Refused w) t = t ≡ no w
 
-unfoldable pub Closes : List Row → ℕ → ℕ → List ℕ → List ℕ → Closed → Type 0
-Closes hand count used before after r =
-    (was : List ℕ) (done : List (List Row)) → Stands was before count used done → Closing was after r (close (rows []) (length before / 5) hand done)
+unfoldable pub Closes : List Row → ℕ → ℕ → ℕ → List ℕ → List ℕ → Closed → Type 0
+Closes hand count used at before after r =
+    (was : List ℕ) (done : List (List Row)) → Stands was before count used done → Closing was after r (close (rows [] at) (length before / 5) hand done)
 
 -- the reading is over
 abbrev pub Finished : List ℕ → Reading → RowsRead → Type 0
 Finished table r o = (r ≡ answerOf o) × Shown table o
 
-unfoldable pub Finishes : List Row → ℕ → ℕ → List ℕ → List ℕ → Reading → Type 0
-Finishes hand count used before after r =
-    (was : List ℕ) (done : List (List Row)) → Stands was before count used done → Finished after r (finish (rows []) (length before / 5) hand done)
+unfoldable pub Finishes : List Row → ℕ → ℕ → ℕ → List ℕ → List ℕ → Reading → Type 0
+Finishes hand count used at before after r =
+    (was : List ℕ) (done : List (List Row)) → Stands was before count used done → Finished after r (finish (rows [] at) (length before / 5) hand done)
 
 -- a tag is read
 abbrev pub Turned : List ℕ → List ℕ → List Row → Turn → Next State RowsRead → Type 0
@@ -60,6 +60,6 @@ abbrev pub ofClosed : Closed → ℕ → Turn
 ofClosed (the-variants.At count used) next = On next 0 count used
 ofClosed (the-variants.Refused w) next = Over (Refused w)
 
-abbrev pub ofKept : Kept → ℕ → ℕ → ℕ → Turn
-ofKept (Used held) next count used = On next held count used
-ofKept Full next count used = Over (Refused ManyNames)
+abbrev pub ofKept : Kept → ℕ → ℕ → ℕ → ℕ → Turn
+ofKept (Used held) at next count used = On next held count used
+ofKept Full at next count used = Over (Refused (ManyNames at))

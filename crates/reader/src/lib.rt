@@ -40,19 +40,26 @@ enum Turn {
     Over(Reading),
 }
 
-// The record in hand is closed if it has a field.
-fn close(table: &mut [u32], hand: &[[u32; 4]], held: usize, records: usize, rows: usize) -> Closed
+// The record in hand is closed if it has a field; `at` is the place that a refusal tells.
+fn close(
+    table: &mut [u32],
+    hand: &[[u32; 4]],
+    held: usize,
+    records: usize,
+    rows: usize,
+    at: usize,
+) -> Closed
     requires { ⌜ (held ≤ length (now hand)) × (5 * rows ≤ length (now table)) ⌝ }
-    ensures { λ r. ⌜ Closes (take held (now (hand .entry))) records rows (now (table .entry)) (now (table .exit)) r ⌝ }
+    ensures { λ r. ⌜ Closes (take held (now (hand .entry))) records rows at (now (table .entry)) (now (table .exit)) r ⌝ }
 {
     if held == 0 {
         return Closed::At { records, rows };
     }
     if RECORDS <= records {
-        return Closed::Refused(Refusal::ManyRecords);
+        return Closed::Refused(Refusal::ManyRecords(at));
     }
     if table.len() / 5 - rows < held {
-        return Closed::Refused(Refusal::FewRows);
+        return Closed::Refused(Refusal::FewRows(at));
     }
     hand::move_rows(table, rows * 5, (records + 1) as u32, hand, held);
     Closed::At {
@@ -61,10 +68,17 @@ fn close(table: &mut [u32], hand: &[[u32; 4]], held: usize, records: usize, rows
     }
 }
 
-// At the end a record that is not closed counts only if a closed one came before.
-fn finish(table: &mut [u32], hand: &[[u32; 4]], held: usize, records: usize, rows: usize) -> Reading
+// At the end a record that is not closed counts only if a closed one came before. No tag closes it: the place is the text's length.
+fn finish(
+    table: &mut [u32],
+    hand: &[[u32; 4]],
+    held: usize,
+    records: usize,
+    rows: usize,
+    at: usize,
+) -> Reading
     requires { ⌜ (held ≤ length (now hand)) × (5 * rows ≤ length (now table)) ⌝ }
-    ensures { λ r. ⌜ Finishes (take held (now (hand .entry))) records rows (now (table .entry)) (now (table .exit)) r ⌝ }
+    ensures { λ r. ⌜ Finishes (take held (now (hand .entry))) records rows at (now (table .entry)) (now (table .exit)) r ⌝ }
 {
     if records == 0 {
         return Reading::Read {
@@ -72,7 +86,7 @@ fn finish(table: &mut [u32], hand: &[[u32; 4]], held: usize, records: usize, row
             rows: 0,
         };
     }
-    let closed = close(table, hand, held, records, rows);
+    let closed = close(table, hand, held, records, rows, at);
     match closed {
         Closed::At {
             records: all,
@@ -99,8 +113,8 @@ fn of_closed(closed: Closed, next: usize) -> Turn
     }
 }
 
-fn of_kept(kept: Kept, next: usize, records: usize, rows: usize) -> Turn
-    ensures { λ r. ⌜ r ≡ ofKept kept next records rows ⌝ }
+fn of_kept(kept: Kept, at: usize, next: usize, records: usize, rows: usize) -> Turn
+    ensures { λ r. ⌜ r ≡ ofKept kept at next records rows ⌝ }
 {
     match kept {
         Kept::Used(held) => Turn::On {
@@ -109,7 +123,7 @@ fn of_kept(kept: Kept, next: usize, records: usize, rows: usize) -> Turn
             records: records,
             rows: rows,
         },
-        Kept::Full => Turn::Over(Reading::Refused(Refusal::ManyNames)),
+        Kept::Full => Turn::Over(Reading::Refused(Refusal::ManyNames(at))),
     }
 }
 
@@ -128,24 +142,24 @@ fn next_turn(
 {
     let tag = tags::next_tag(text, at);
     match tag {
-        Tag::End => Turn::Over(finish(table, hand, held, records, rows)),
-        Tag::Eof => Turn::Over(finish(table, hand, held, records, rows)),
-        Tag::Eoh(next) => of_kept(Kept::Used(0), next, records, rows),
-        Tag::Eor(next) => of_closed(close(table, hand, held, records, rows), next),
+        Tag::End => Turn::Over(finish(table, hand, held, records, rows, text.len())),
+        Tag::Eof => Turn::Over(finish(table, hand, held, records, rows, text.len())),
+        Tag::Eoh(next) => of_kept(Kept::Used(0), 0, next, records, rows),
+        Tag::Eor { at: lt, next } => of_closed(close(table, hand, held, records, rows, lt), next),
         Tag::Field {
+            at: lt,
             name,
             name_length,
             value,
             value_length,
         } => {
-            let row = [
-                name as u32,
-                name_length as u32,
-                value as u32,
-                value_length as u32,
-            ];
+            let name_at = name as u32;
+            let name_size = name_length as u32;
+            let value_at = value as u32;
+            let value_size = value_length as u32;
+            let row = [name_at, name_size, value_at, value_size];
             let kept = hand::with_field(text, hand, held, row);
-            of_kept(kept, value + value_length, records, rows)
+            of_kept(kept, lt, value + value_length, records, rows)
         }
         Tag::Refused(why) => Turn::Over(Reading::Refused(why)),
     }

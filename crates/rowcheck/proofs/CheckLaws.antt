@@ -89,11 +89,11 @@ module _ (text : List ℕ) (n c : ℕ) (p r : Row) (a : Bool) (ea : a ≡ placed
         not-named h = rw (← ea, not-false a ha, ← es, not-false s hs, ← eb, not-false b hb, ← ew, not-true w h)
 
         module _ (hw : not w ≡ false) (k : ℕ) (ek : k ≡ counted n c r) where
-          pub many-names : 256 < k → Refused ManyNames ≡ verdict text n c p r
+          pub many-names : 256 < k → Refused (ManyNames 0) ≡ verdict text n c p r
           unfolding verdict
           many-names h = rw (← ea, not-false a ha, ← es, not-false s hs, ← eb, not-false b hb, ← ew, not-false w hw, ← ek, lt-leb k 256 h)
 
-          pub many-records : k ≤ 256 → 65535 < recordIn r → Refused ManyRecords ≡ verdict text n c p r
+          pub many-records : k ≤ 256 → 65535 < recordIn r → Refused (ManyRecords 0) ≡ verdict text n c p r
           unfolding verdict
           many-records h g =
               rw (← ea, not-false a ha, ← es, not-false s hs, ← eb, not-false b hb, ← ew, not-false w hw, ← ek, le-leb k 256 h, lt-leb (recordIn r) 65535 g)

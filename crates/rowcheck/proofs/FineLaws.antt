@@ -52,10 +52,10 @@ less Greater e = absurd (let z : _≡_ {A = ℕ} 0 1 = cc in omega arith)
 module _ (text : List ℕ) (n c : ℕ) (p r : Row) (v : verdict text n c p r ≡ Accepted) where
   -- the tests that come after places, characters, order and name
   abbrev after-names : Verdict
-  after-names = pick (leb (recordIn r) 65535) Accepted (Refused ManyRecords)
+  after-names = pick (leb (recordIn r) 65535) Accepted (Refused (ManyRecords 0))
 
   abbrev after-name : Verdict
-  after-name = pick (leb (counted n c r) 256) after-names (Refused ManyNames)
+  after-name = pick (leb (counted n c r) 256) after-names (Refused (ManyNames 0))
 
   abbrev after-order : Verdict
   after-order = pick (writable (nameIn text r)) after-name (Refused BadName)
@@ -95,12 +95,12 @@ module _ (text : List ℕ) (n c : ℕ) (p r : Row) (v : verdict text n c p r ≡
   from-names = onward BadName (writable (nameIn text r)) after-name from-name
 
   pub few-names : counted n c r ≤ 256
-  few-names = leb-true (counted n c r) 256 (passed ManyNames (leb (counted n c r) 256) after-names from-names)
+  few-names = leb-true (counted n c r) 256 (passed (ManyNames 0) (leb (counted n c r) 256) after-names from-names)
 
   pub few-records : recordIn r ≤ 65535
   few-records =
       leb-true (recordIn r) 65535
-      (passed ManyRecords (leb (recordIn r) 65535) Accepted (onward ManyNames (leb (counted n c r) 256) after-names from-names))
+      (passed (ManyRecords 0) (leb (recordIn r) 65535) Accepted (onward (ManyNames 0) (leb (counted n c r) 256) after-names from-names))
 
   -- the same record, with a higher name; or the next
   abbrev higher-name : Bool

@@ -53,10 +53,10 @@ unfolding lead ends other space1 space2 space3 space80 spaceLen spaceBack width 
 control = refl
 
 -- the 257th name, and the 65,536th record
-crowded : verdict text 1 256 (row 1 0 1) (row 1 1 1) ≡ Refused ManyNames
+crowded : verdict text 1 256 (row 1 0 1) (row 1 1 1) ≡ Refused (ManyNames 0)
 unfolding lead ends other space1 space2 space3 space80 spaceLen spaceBack width trimStart trimEnd charLen longChar second3 second4 validUpTo utf8 raised sameRaised orderRaised kindOf placed sound follows lacks writable counted verdict
 crowded = refl
 
-too-many : verdict text 65535 1 (row 65535 0 1) (row 65536 1 1) ≡ Refused ManyRecords
+too-many : verdict text 65535 1 (row 65535 0 1) (row 65536 1 1) ≡ Refused (ManyRecords 0)
 unfolding lead ends other space1 space2 space3 space80 spaceLen spaceBack width trimStart trimEnd charLen longChar second3 second4 validUpTo utf8 raised sameRaised orderRaised kindOf placed sound follows lacks writable counted verdict
 too-many = refl

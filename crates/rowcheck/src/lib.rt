@@ -146,10 +146,10 @@ pub fn verdict_of(text: &[u8], n: u32, c: usize, p: [u32; 5], row: [u32; 5]) -> 
         return Verdict::Refused(Refusal::BadName);
     }
     if NAMES < count_with(n, c, row) {
-        return Verdict::Refused(Refusal::ManyNames);
+        return Verdict::Refused(Refusal::ManyNames(0));
     }
     if RECORDS < row[0] {
-        return Verdict::Refused(Refusal::ManyRecords);
+        return Verdict::Refused(Refusal::ManyRecords(0));
     }
     Verdict::Accepted
 }

@@ -1,27 +1,27 @@
 -- The summary behind the lines, and the other two answers. Assumes nothing.
 use mathlib.Core.Path.{_≡_, refl, sym, ap, _∙_}
-use mathlib.Core.Bool.{false}
+use mathlib.Core.Bool.{Bool, true, false}
 use mathlib.Core.List.{List, [], _++_}
-use Prim.Native.Nat.{ℕ, _+_, _≤_}
+use Prim.Native.Nat.{ℕ, _+_, _≤_, _<_}
 use native.Mathlib.Omega.{arith}
-use lib.Dec.{eqb, ltb}
+use lib.Dec.{eqb, leb, ltb}
 use lib.ListN.{length, take, drop, replicate, length-replicate}
 use lib.Seq.{sets, sets-eq, take-at, length-sets, length-take-le}
-use borrow.Author.Tests.{le-ltb}
+use borrow.Author.Tests.{lt-ltb, le-ltb}
 use Rattle.text.specs.Pick.{pick}
 use Rattle.text.specs.Ascii.{ascii}
 use Rattle.decimal.specs.Digits.{decimal}
 use Rattle.output.specs.Put.{Put, Room}
 use Rattle.output.proofs.PutLaws.{put-then, put-length, put-next, room-first, room-next}
 use Rattle.refusals.specs.declared.Refusal.{Refusal}
-use Rattle.refusals.specs.Refusals.{numberOf}
+use Rattle.refusals.specs.Refusals.{numberOf, placeOf}
 use Rattle.summary.specs.declared.Counts.{Counts}
 use Rattle.summary.specs.declared.Line.{Line}
 use Rattle.summary.specs.declared.Line.the-variants.{Bytes, Refused}
 use Rattle.summary.specs.Summary.{counted, dot, further, part, found, confirmed, leftOut, summaryText, answerTo, outputAfter}
 use Rattle.plan.specs.Fates.{fatesIn}
 use Rattle.plan.specs.Plan.{countsWith}
-use Rattle.show.specs.Shown.{newline, linesOf, planText, refusedText, tooLongText}
+use Rattle.show.specs.Shown.{blank, newline, linesOf, planText, hasPlace, toldText, refusedText, tooLongText}
 use Rattle.show.specs.Parts.{sizeOf}
 use Rattle.show.proofs.LineLaws.{few, joined-few, picked-few, lines-few}
 
@@ -135,24 +135,78 @@ module _ (rows : List (List ℕ)) (n : ℕ) (was : List ℕ) (q : ℕ) (mid : Li
   plan-put confirmations already unmatched c e q′ mid′ p′ r now s =
       rw (← e) (put-then r q was mid now 0 (linesOf rows n) (summaryText c ++ newline) p (put-then r q′ mid mid′ now q (summaryText c) newline p′ s))
 
--- ---- one line for a refusal
+-- ---- one line for a refusal: its number of at most 20 digits, its place and a byte behind each
+module _ (n : ℕ) where
+  pub without-place : n < 2 → false ≡ hasPlace n
+  unfolding hasPlace
+  without-place h = rw (lt-ltb n 2 h)
+
+  pub placed-to : (b : Bool) → 2 ≤ n → b ≡ leb n 10 → b ≡ hasPlace n
+  unfolding hasPlace
+  placed-to b h e = rw (le-ltb n 2 h) e
+
+module _ (n at : ℕ) where
+  pub told-few : length (toldText n at) ≤ 42
+  unfolding toldText
+  told-few =
+      picked-few (hasPlace n) ((decimal n ++ blank) ++ (decimal at ++ newline)) (decimal n ++ newline) 42
+      (joined-few (decimal n ++ blank) (decimal at ++ newline) 21 21
+      (joined-few (decimal n) blank 20 1 (few n) (omega arith))
+      (joined-few (decimal at) newline 20 1 (few at) (omega arith)))
+      (omega (arith, joined-few (decimal n) newline 20 1 (few n) (omega arith)))
+
+  module _ (was : List ℕ) (to : ℕ) (b : Bool) (e : b ≡ hasPlace n) where
+    module _ (h : b ≡ true) where
+      abbrev placed : List ℕ
+      placed = (decimal n ++ blank) ++ (decimal at ++ newline)
+
+      told-is : toldText n at ≡ placed
+      unfolding toldText
+      told-is = rw (← e, h) refl
+
+      pub number-room : Room was to (toldText n at) → Room was to (decimal n ++ blank)
+      number-room r = room-first was to (decimal n ++ blank) (decimal at ++ newline) (rw told-is at r)
+
+      module _ (q : ℕ) (mid : List ℕ) (p : Put q was mid to (decimal n ++ blank)) where
+        pub place-room : Room was to (toldText n at) → Room mid q (decimal at ++ newline)
+        place-room r = room-next was to (decimal n ++ blank) (decimal at ++ newline) (rw told-is at r) q mid p
+
+        pub place-put : (r : ℕ) (now : List ℕ) → Put r mid now q (decimal at ++ newline) → Put r was now to (toldText n at)
+        place-put r now s = rw told-is (put-then r q was mid now to (decimal n ++ blank) (decimal at ++ newline) p s)
+
+    module _ (h : b ≡ false) where
+      bare-is : toldText n at ≡ decimal n ++ newline
+      unfolding toldText
+      bare-is = rw (← e, h) refl
+
+      pub bare-room : Room was to (toldText n at) → Room was to (decimal n ++ newline)
+      bare-room r = rw bare-is at r
+
+      pub bare-put : (r : ℕ) (now : List ℕ) → Put r was now to (decimal n ++ newline) → Put r was now to (toldText n at)
+      bare-put r now s = rw bare-is s
+
+pub refusal-few : (why : Refusal) → length (refusedText why) ≤ 50
+unfolding refusedText
+refusal-few why =
+    joined-few (ascii "refused ") (toldText (numberOf why) (placeOf why)) 8 42 (omega arith) (told-few (numberOf why) (placeOf why))
+
 module _ (why : Refusal) (was : List ℕ) (h : 196608 ≤ length was) where
   refused-room : Room was 0 (refusedText why)
-  unfolding Room refusedText
-  refused-room = omega (arith, joined-few (ascii "refused ") (decimal (numberOf why) ++ newline) 8 21 (omega arith) (joined-few (decimal (numberOf why)) newline 20 1 (few (numberOf why)) (omega arith)))
+  unfolding Room
+  refused-room = omega (arith, refusal-few why)
 
   pub refused-first : Room was 0 (ascii "refused ")
   unfolding refusedText
-  refused-first = room-first was 0 (ascii "refused ") (decimal (numberOf why) ++ newline) refused-room
+  refused-first = room-first was 0 (ascii "refused ") (toldText (numberOf why) (placeOf why)) refused-room
 
-  module _ (n : ℕ) (e : n ≡ numberOf why) (q : ℕ) (mid : List ℕ) (p : Put q was mid 0 (ascii "refused ")) where
-    pub refused-next : Room mid q (decimal n ++ newline)
+  module _ (n at : ℕ) (e : n ≡ numberOf why) (f : at ≡ placeOf why) (q : ℕ) (mid : List ℕ) (p : Put q was mid 0 (ascii "refused ")) where
+    pub refused-next : Room mid q (toldText n at)
     unfolding refusedText
-    refused-next = rw e (room-next was 0 (ascii "refused ") (decimal (numberOf why) ++ newline) refused-room q mid p)
+    refused-next = rw (e, f) (room-next was 0 (ascii "refused ") (toldText (numberOf why) (placeOf why)) refused-room q mid p)
 
-    pub refused-put : (r : ℕ) (now : List ℕ) → Put r mid now q (decimal n ++ newline) → Put r was now 0 (refusedText why)
+    pub refused-put : (r : ℕ) (now : List ℕ) → Put r mid now q (toldText n at) → Put r was now 0 (refusedText why)
     unfolding refusedText
-    refused-put r now s = put-then r q was mid now 0 (ascii "refused ") (decimal (numberOf why) ++ newline) p (rw e at s)
+    refused-put r now s = put-then r q was mid now 0 (ascii "refused ") (toldText (numberOf why) (placeOf why)) p (rw (e, f) at s)
 
 pub too-long-room : (was : List ℕ) → 196608 ≤ length was → Room was 0 tooLongText
 unfolding Room

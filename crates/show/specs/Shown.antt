@@ -1,13 +1,14 @@
 -- What `showplan` prints: of each record its number, the name of its fate and its reason (0 if none); then the summary. Of a text that
--- is too long, or a plan that is refused, one line.
+-- is too long, or a plan that is refused, one line; a refusal is told with its place in the text.
+use mathlib.Core.Bool.{Bool, false}
 use mathlib.Core.List.{List, [], _∷_, _++_}
 use Prim.Native.Nat.{ℕ, zero, suc}
-use lib.Dec.{eqb}
+use lib.Dec.{eqb, leb, ltb}
 use Rattle.text.specs.Pick.{pick}
 use Rattle.text.specs.Ascii.{ascii}
 use Rattle.decimal.specs.Digits.{decimal}
 use Rattle.refusals.specs.declared.Refusal.{Refusal}
-use Rattle.refusals.specs.Refusals.{numberOf}
+use Rattle.refusals.specs.Refusals.{numberOf, placeOf}
 use Rattle.chain.specs.Chain.{col}
 use Rattle.summary.specs.Summary.{summaryText}
 use Rattle.plan.specs.Fates.{fatesIn}
@@ -44,8 +45,16 @@ unfoldable pub planText : List (List ℕ) → ℕ → ℕ → ℕ → ℕ → Li
 planText rows n confirmations already unmatched =
     linesOf rows n ++ (summaryText (countsWith (fatesIn rows n) confirmations already unmatched) ++ newline)
 
+-- refusals that tell a place, by their number: 2 to 10. A place may be 0
+unfoldable pub hasPlace : ℕ → Bool
+hasPlace n = pick (ltb n 2) false (leb n 10)
+
+-- a refusal's number, and behind it the place of one that tells it
+unfoldable pub toldText : ℕ → ℕ → List ℕ
+toldText n at = pick (hasPlace n) ((decimal n ++ blank) ++ (decimal at ++ newline)) (decimal n ++ newline)
+
 unfoldable pub refusedText : Refusal → List ℕ
-refusedText why = ascii "refused " ++ (decimal (numberOf why) ++ newline)
+refusedText why = ascii "refused " ++ toldText (numberOf why) (placeOf why)
 
 abbrev pub tooLongText : List ℕ
 tooLongText = ascii "too long" ++ newline

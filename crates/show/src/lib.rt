@@ -6,7 +6,7 @@ ghost use lib.ListN.{length, getD};
 ghost use Rattle.decimal.specs.Digits.{decimal};
 ghost use Rattle.output.specs.Put.{Put, Room};
 ghost use Rattle.summary.specs.Summary.{summaryText};
-ghost use Rattle.show.specs.Shown.{fateName, lineOf, linesOf, planText, refusedText, tooLongText};
+ghost use Rattle.show.specs.Shown.{fateName, lineOf, linesOf, planText, hasPlace, toldText, refusedText, tooLongText};
 ghost use Rattle.show.specs.Parts.{sizeOf};
 use refusals::Refusal;
 use summary::Counts;
@@ -128,12 +128,36 @@ pub fn write_plan(
     output::put_byte(out, b, b'\n')
 }
 
+// Whether the refusal of this number tells a place of the text.
+fn has_place(number: u64) -> bool
+    ensures { λ r. ⌜ r ≡ hasPlace number ⌝ }
+{
+    if number < 2 { false } else { number <= 10 }
+}
+
+// The number of a refusal, and its place where it tells one.
+fn put_told(out: &mut [u8], at: usize, number: u64, place: u64) -> usize
+    requires { ⌜ Room (now out) at (toldText number place) ⌝ }
+    ensures { λ r. ⌜ Put r (now (out .entry)) (now (out .exit)) at (toldText number place) ⌝ }
+{
+    if has_place(number) {
+        let a = put_number(out, at, number, b' ');
+        return put_number(out, a, place, b'\n');
+    }
+    put_number(out, at, number, b'\n')
+}
+
 pub fn write_refusal(why: Refusal, out: &mut [u8]) -> usize
     requires { ⌜ 196608 ≤ length (now out) ⌝ }
     ensures { λ r. ⌜ Put r (now (out .entry)) (now (out .exit)) 0 (refusedText why) ⌝ }
 {
     let a = output::put_bytes(out, 0, b"refused ");
-    put_number(out, a, refusals::number(why) as u64, b'\n')
+    put_told(
+        out,
+        a,
+        refusals::number(why) as u64,
+        refusals::place(why) as u64,
+    )
 }
 
 pub fn write_too_long(out: &mut [u8]) -> usize

@@ -12,13 +12,10 @@ use lib.ListN.{length, take}
 use lib.Seq.{length-take-le}
 use borrow.Author.Tests.{le-leb, lt-leb, leb-true}
 use Rattle.text.specs.Pick.{pick}
-use Rattle.text.specs.Ascii.{ascii}
-use Rattle.decimal.specs.Digits.{decimal}
 use Rattle.output.specs.Put.{Put}
 use Rattle.output.proofs.PutLaws.{put-next}
 use Rattle.refusals.specs.declared.Refusal.{Refusal}
 use Rattle.refusals.specs.declared.Refusal.the-variants.{ShortTable}
-use Rattle.refusals.specs.Refusals.{numberOf}
 use Rattle.adif.specs.Records.{records, refused, total}
 use Rattle.adif.specs.Reading.{RowsRead}
 use Rattle.contacts.specs.declared.Listed.{Listed}
@@ -32,8 +29,8 @@ use Rattle.planner.specs.Planning.{Asked, asked, planFor, made, plannedRead, pl
 use Rattle.planner.specs.declared.Planned.{Planned}
 use Rattle.planner.specs.declared.Planned.the-variants.{Made, Refused}
 use Rattle.show.specs.Shown.{newline, linesOf, planText, refusedText, tooLongText}
-use Rattle.show.proofs.LineLaws.{few, joined-few, lines-few}
-use Rattle.show.proofs.PlanLaws.{summary-few}
+use Rattle.show.proofs.LineLaws.{joined-few, lines-few}
+use Rattle.show.proofs.PlanLaws.{summary-few, refusal-few}
 use Rattle.showplan.specs.Printed.{recordsIn, shownText, askedOf, askedIn, PlannedIn, printed}
 
 -- ---- a plan has at most as many records as fates were lent
@@ -67,11 +64,6 @@ plan-few rows n confirmations already unmatched h =
     joined-few (linesOf rows n) (summaryText (countsWith (fatesIn rows n) confirmations already unmatched) ++ newline) 180000 269
     (omega (arith, lines-few rows n))
     (joined-few (summaryText (countsWith (fatesIn rows n) confirmations already unmatched)) newline 268 1 (summary-few (countsWith (fatesIn rows n) confirmations already unmatched)) (omega arith))
-
-refusal-few : (why : Refusal) → length (refusedText why) ≤ 29
-unfolding refusedText
-refusal-few why =
-    joined-few (ascii "refused ") (decimal (numberOf why) ++ newline) 8 21 (omega arith) (joined-few (decimal (numberOf why)) newline 20 1 (few (numberOf why)) (omega arith))
 
 module _ (rows : List (List ℕ)) (plan : Planned) (r : ℕ) (was now : List ℕ) where
   module _ (n used cards already unmatched contacts top : ℕ) (e : plan ≡ Made n used cards already unmatched contacts top) where

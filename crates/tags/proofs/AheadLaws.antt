@@ -44,38 +44,38 @@ place-in a t = by (eqb (nameLength t) 0) refl
     by false e = omega (arith, name-in t)
 
 module _ (s : List ℕ) (at next : ℕ) (p : at < next) (q : next ≤ length s) where
-  value-ahead : (a k : ℕ) → a + k ≤ length s → (num : Unsigned) → Ahead s at (valueOf s a k next num)
+  value-ahead : (i a k : ℕ) → a + k ≤ length s → (num : Unsigned) → Ahead s at (valueOf s i a k next num)
   unfolding valueOf
-  value-ahead a k m Not = tt
-  value-ahead a k m (Is n) =
+  value-ahead i a k m Not = tt
+  value-ahead i a k m (Is n) =
       pick-elim (Ahead s at) (leb n (length s - next)) _ _
       (λ e. pick-elim (Ahead s at) (cont (getD s (next + n) 0)) _ _ (λ _. tt) (λ _. omega (arith, leb-true n (length s - next) e)))
       (λ _. tt)
 
-  kind-ahead : (a : ℕ) (t : List ℕ) → a + length t ≤ length s → (k : Kind) → Ahead s at (byKind s a t next k)
+  kind-ahead : (i : ℕ) (t : List ℕ) → i + 1 + length t ≤ length s → (k : Kind) → Ahead s at (byKind s i t next k)
   unfolding byKind
-  kind-ahead a t m EndOfHeader = (p, q)
-  kind-ahead a t m EndOfRecord = (p, q)
-  kind-ahead a t m EndOfFile = tt
-  kind-ahead a t m FieldName =
+  kind-ahead i t m EndOfHeader = (p, q)
+  kind-ahead i t m EndOfRecord = (p, q)
+  kind-ahead i t m EndOfFile = tt
+  kind-ahead i t m FieldName =
       pick-elim (Ahead s at) (ltb (colonAt t) (length t)) _ _
-      (λ _. value-ahead (namePlace a t) (nameLength t) (omega (arith, place-in a t)) (lengthAfter t (colonAt t)))
+      (λ _. value-ahead i (namePlace (i + 1) t) (nameLength t) (omega (arith, place-in (i + 1) t)) (lengthAfter t (colonAt t)))
       (λ _. tt)
 
-closed-ahead : (s : List ℕ) (at a e : ℕ) → at < a → a ≤ e → Ahead s at (closedAt s a e)
+closed-ahead : (s : List ℕ) (at i e : ℕ) → at ≤ i → i + 1 ≤ e → Ahead s at (closedAt s i e)
 unfolding closedAt tagOf
-closed-ahead s at a e p q =
+closed-ahead s at i e p q =
     pick-elim (Ahead s at) (ltb e (length s)) _ _
     (λ t.
     let h : e < length s = ltb-true e (length s) t in
-    kind-ahead s at (e + 1) (omega arith) (omega arith) a (take (e - a) (drop a s)) (simp (length-take, length-drop) (omega arith)) (kindOf (nameOf (take (e - a) (drop a s)))))
+    kind-ahead s at (e + 1) (omega arith) (omega arith) i (take (e - (i + 1)) (drop (i + 1) s)) (simp (length-take, length-drop) (omega arith)) (kindOf (nameOf (take (e - (i + 1)) (drop (i + 1) s)))))
     (λ _. tt)
 
 open-ahead : (s : List ℕ) (at i : ℕ) → at ≤ i → Ahead s at (openAt s i)
 unfolding openAt
 open-ahead s at i p =
     pick-elim (Ahead s at) (ltb i (length s)) _ _
-    (λ e. closed-ahead s at (i + 1) (ends (other gt) s (i + 1)) (omega arith) (past (other gt) s (i + 1)))
+    (λ e. closed-ahead s at i (ends (other gt) s (i + 1)) p (past (other gt) s (i + 1)))
     (λ _. tt)
 
 pub ahead : (s : List ℕ) (at : ℕ) → Ahead s at (tagAt s at)

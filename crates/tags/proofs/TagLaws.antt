@@ -53,22 +53,22 @@ pub length-part : (t : List ℕ) (c e : ℕ) (u : List ℕ) (r : Unsigned)
 unfolding lengthAfter colonAt
 length-part t c e u r p q w = w ∙ ap unsignedOf q ∙ simp (p, rest)
 
-module _ (s : List ℕ) (a k next : ℕ) (num : Unsigned) where
-  pub value-bad : num ≡ Not → Refused (BadLength a k) ≡ valueOf s a k next num
+module _ (s : List ℕ) (i a k next : ℕ) (num : Unsigned) where
+  pub value-bad : num ≡ Not → Refused (BadLength i a k) ≡ valueOf s i a k next num
   unfolding valueOf
   value-bad e = rw e
 
   module _ (n : ℕ) (e : num ≡ Is n) where
-    pub value-cut : length s - next < n → Refused (TruncatedValue a k n (length s - next)) ≡ valueOf s a k next num
+    pub value-cut : length s - next < n → Refused (TruncatedValue i a k n (length s - next)) ≡ valueOf s i a k next num
     unfolding valueOf
     value-cut h = simp (e, lt-leb n (length s - next) h)
 
     module _ (h : n ≤ length s - next) (b : ℕ) (f : b ≡ getD s (next + n) 0) (t : Bool) (g : t ≡ within b 0x80 0xBF) where
-      pub value-torn : t ≡ true → Refused (NonUtf8 a k) ≡ valueOf s a k next num
+      pub value-torn : t ≡ true → Refused (NonUtf8 i a k) ≡ valueOf s i a k next num
       unfolding valueOf
       value-torn y = simp (e, le-leb n (length s - next) h, ← f, ← g, y)
 
-      pub value-whole : t ≡ false → Field a k next n ≡ valueOf s a k next num
+      pub value-whole : t ≡ false → Field i a k next n ≡ valueOf s i a k next num
       unfolding valueOf
       value-whole y = simp (e, le-leb n (length s - next) h, ← f, ← g, y)
 
@@ -80,22 +80,22 @@ pub place-kept : (at n : ℕ) → (n ≡ 0 → ⊥) → at ≡ pick (eqb n 0) 0 
 place-kept at n e = rw (ne-eqb n 0 e) refl
 
 -- a tag, by its inside t
-module _ (s : List ℕ) (a : ℕ) (t : List ℕ) (next c i n : ℕ) (k : Kind) (ec : c ≡ ends (other colon) t 0) (ei : i ≡ trimStart (take c t))
+module _ (s : List ℕ) (at : ℕ) (t : List ℕ) (next c i n : ℕ) (k : Kind) (ec : c ≡ ends (other colon) t 0) (ei : i ≡ trimStart (take c t))
     (en : n ≡ trimEnd (take (length (take c t) - i) (drop i (take c t))))
     (ek : k ≡ kindOf (take n (take (length (take c t) - i) (drop i (take c t))))) where
   kind-is : kindOf (nameOf t) ≡ k
   unfolding nameOf colonAt
   kind-is = rw (← ec, ← trim-part (take c t) i n ei en) (sym ek)
 
-  pub tag-eoh : k ≡ EndOfHeader → Eoh next ≡ tagOf s a t next
+  pub tag-eoh : k ≡ EndOfHeader → Eoh next ≡ tagOf s at t next
   unfolding tagOf byKind
   tag-eoh e = rw (kind-is, e)
 
-  pub tag-eor : k ≡ EndOfRecord → Eor next ≡ tagOf s a t next
+  pub tag-eor : k ≡ EndOfRecord → Eor at next ≡ tagOf s at t next
   unfolding tagOf byKind
   tag-eor e = rw (kind-is, e)
 
-  pub tag-eof : k ≡ EndOfFile → Eof ≡ tagOf s a t next
+  pub tag-eof : k ≡ EndOfFile → Eof ≡ tagOf s at t next
   unfolding tagOf byKind
   tag-eof e = rw (kind-is, e)
 
@@ -103,16 +103,16 @@ module _ (s : List ℕ) (a : ℕ) (t : List ℕ) (next c i n : ℕ) (k : Kind) (
   unfolding nameLength nameAt colonAt
   length-is = simp (← ec, ← ei) (rw (en, rest))
 
-  place-is : (m : ℕ) → m ≡ pick (eqb n 0) 0 (a + i) → m ≡ namePlace a t
+  place-is : (m : ℕ) → m ≡ pick (eqb n 0) 0 (at + 1 + i) → m ≡ namePlace (at + 1) t
   unfolding namePlace nameAt colonAt
   place-is m em = em ∙ rw (← length-is) (simp (← ec, ← ei))
 
-  pub tag-missing : (m : ℕ) → m ≡ pick (eqb n 0) 0 (a + i) → k ≡ FieldName → length t ≤ c → Refused (MissingLength m n) ≡ tagOf s a t next
+  pub tag-missing : (m : ℕ) → m ≡ pick (eqb n 0) 0 (at + 1 + i) → k ≡ FieldName → length t ≤ c → Refused (MissingLength at m n) ≡ tagOf s at t next
   unfolding tagOf byKind colonAt
   tag-missing m em e h = rw (kind-is, e) (simp (← ec, le-ltb c (length t) h) (rw (place-is m em, length-is) refl))
 
-  pub tag-field : (m : ℕ) (num : Unsigned) (r : Tag) → m ≡ pick (eqb n 0) 0 (a + i) → k ≡ FieldName → c < length t → num ≡ lengthAfter t c
-      → r ≡ valueOf s m n next num → r ≡ tagOf s a t next
+  pub tag-field : (m : ℕ) (num : Unsigned) (r : Tag) → m ≡ pick (eqb n 0) 0 (at + 1 + i) → k ≡ FieldName → c < length t → num ≡ lengthAfter t c
+      → r ≡ valueOf s at m n next num → r ≡ tagOf s at t next
   unfolding tagOf byKind colonAt
   tag-field m num r em e h f g = rw (kind-is, e) (simp (← ec, lt-ltb c (length t) h, ← f) (g ∙ rw (place-is m em, length-is) refl))
 
@@ -141,13 +141,13 @@ module _ (s : List ℕ) (at i : ℕ) (e : i ≡ ends (other lt) s at) where
     unfolding ends
     closes = rw (f, rest s (i + 1)) (omega arith)
 
-    pub tag-open : length (take (length s - (i + 1)) (drop (i + 1) s)) ≤ n → Refused UnterminatedTag ≡ tagAt s at
+    pub tag-open : length (take (length s - (i + 1)) (drop (i + 1) s)) ≤ n → Refused (UnterminatedTag i) ≡ tagAt s at
     unfolding tagAt openAt closedAt
     tag-open g =
         simp (← e, lt-ltb i (length s) h, ← closes, le-ltb (i + 1 + n) (length s) (omega (arith, rest-length s (i + 1))))
 
     pub tag-is : (r : Tag) → n < length (take (length s - (i + 1)) (drop (i + 1) s))
-        → r ≡ tagOf s (i + 1) (take (i + 1 + n - (i + 1)) (drop (i + 1) s)) (i + 1 + n + 1) → r ≡ tagAt s at
+        → r ≡ tagOf s i (take (i + 1 + n - (i + 1)) (drop (i + 1) s)) (i + 1 + n + 1) → r ≡ tagAt s at
     unfolding tagAt openAt closedAt
     tag-is r g q =
         simp (← e, lt-ltb i (length s) h, ← closes, lt-ltb (i + 1 + n) (length s) (omega (arith, rest-length s (i + 1)))) q

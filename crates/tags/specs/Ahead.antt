@@ -8,7 +8,7 @@ use Rattle.tags.specs.declared.Tag.the-variants.{End, Eoh, Eor, Eof, Fie
 abbrev pub Ahead : List ℕ → ℕ → Tag → Type 0
 Ahead s at End = Unit
 Ahead s at (Eoh next) = (at < next) × (next ≤ length s)
-Ahead s at (Eor next) = (at < next) × (next ≤ length s)
+Ahead s at (Eor i next) = (at < next) × (next ≤ length s)
 Ahead s at Eof = Unit
-Ahead s at (Field a k v n) = (at < v + n) × (v + n ≤ length s) × (a + k ≤ length s)
+Ahead s at (Field i a k v n) = (at < v + n) × (v + n ≤ length s) × (a + k ≤ length s)
 Ahead s at (Refused r) = Unit

@@ -64,32 +64,33 @@ nameOf t = trimmed (take (colonAt t) t)
 unfoldable pub lengthAfter : List ℕ → ℕ → Unsigned
 lengthAfter t c = unsignedOf (trimmed (take (colonAt (drop (c + 1) t)) (drop (c + 1) t)))
 
--- the field of the name of k bytes at a, whose value is the n bytes from `next` on: 5, 6, and 7 where it ends inside a character
-unfoldable pub valueOf : List ℕ → ℕ → ℕ → ℕ → Unsigned → Tag
-valueOf s a k next Not = Refused (BadLength a k)
-valueOf s a k next (Is n) =
-    pick (leb n (length s - next)) (pick (cont (getD s (next + n) 0)) (Refused (NonUtf8 a k)) (Field a k next n))
-    (Refused (TruncatedValue a k n (length s - next)))
+-- the field of the tag that is opened at i, of the name of k bytes at a, whose value is the n bytes from `next` on: 5, 6, and 7 where it
+-- ends inside a character
+unfoldable pub valueOf : List ℕ → ℕ → ℕ → ℕ → ℕ → Unsigned → Tag
+valueOf s i a k next Not = Refused (BadLength i a k)
+valueOf s i a k next (Is n) =
+    pick (leb n (length s - next)) (pick (cont (getD s (next + n) 0)) (Refused (NonUtf8 i a k)) (Field i a k next n))
+    (Refused (TruncatedValue i a k n (length s - next)))
 
--- a tag whose inside t starts at a, and that ends at `next`
+-- a tag that is opened at i, whose inside is t, and that ends at `next`
 unfoldable pub byKind : List ℕ → ℕ → List ℕ → ℕ → Kind → Tag
-byKind s a t next EndOfHeader = Eoh next
-byKind s a t next EndOfRecord = Eor next
-byKind s a t next EndOfFile = Eof
-byKind s a t next FieldName =
-    pick (ltb (colonAt t) (length t)) (valueOf s (namePlace a t) (nameLength t) next (lengthAfter t (colonAt t)))
-    (Refused (MissingLength (namePlace a t) (nameLength t)))
+byKind s i t next EndOfHeader = Eoh next
+byKind s i t next EndOfRecord = Eor i next
+byKind s i t next EndOfFile = Eof
+byKind s i t next FieldName =
+    pick (ltb (colonAt t) (length t)) (valueOf s i (namePlace (i + 1) t) (nameLength t) next (lengthAfter t (colonAt t)))
+    (Refused (MissingLength i (namePlace (i + 1) t) (nameLength t)))
 
 unfoldable pub tagOf : List ℕ → ℕ → List ℕ → ℕ → Tag
-tagOf s a t next = byKind s a t next (kindOf (nameOf t))
+tagOf s i t next = byKind s i t next (kindOf (nameOf t))
 
--- the tag that is opened before a, and closed at e if at all
+-- the tag that is opened at i, and closed at e if at all
 unfoldable pub closedAt : List ℕ → ℕ → ℕ → Tag
-closedAt s a e = pick (ltb e (length s)) (tagOf s a (take (e - a) (drop a s)) (e + 1)) (Refused UnterminatedTag)
+closedAt s i e = pick (ltb e (length s)) (tagOf s i (take (e - (i + 1)) (drop (i + 1) s)) (e + 1)) (Refused (UnterminatedTag i))
 
 -- the tag that is opened at i, if one is
 unfoldable pub openAt : List ℕ → ℕ → Tag
-openAt s i = pick (ltb i (length s)) (closedAt s (i + 1) (ends (other gt) s (i + 1))) End
+openAt s i = pick (ltb i (length s)) (closedAt s i (ends (other gt) s (i + 1))) End
 
 -- the first tag from `at` on
 unfoldable pub tagAt : List ℕ → ℕ → Tag

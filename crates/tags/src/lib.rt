@@ -17,13 +17,18 @@ pub enum Kind {
     FieldName,
 }
 
-// EOH and EOR with the place after the tag; a field with its name and value, after which the text goes on.
+// EOH and EOR with the place after the tag; a field with its name and value, after which the text goes on. `at` is the place of the
+// tag's `<`.
 pub enum Tag {
     End,
     Eoh(usize),
-    Eor(usize),
+    Eor {
+        at: usize,
+        next: usize,
+    },
     Eof,
     Field {
+        at: usize,
         name: usize,
         name_length: usize,
         value: usize,
@@ -58,13 +63,14 @@ fn length_after(t: &[u8], c: usize) -> Unsigned
     decimal::parse_unsigned(text::space::trim(&rest[..e]))
 }
 
-// The field whose name is the `size` bytes at `name`, and whose value starts at `next`.
-fn value_of(s: &[u8], name: usize, size: usize, next: usize, number: Unsigned) -> Tag
+// The field whose tag is opened at `at`, whose name is the `size` bytes at `name`, and whose value starts at `next`.
+fn value_of(s: &[u8], at: usize, name: usize, size: usize, next: usize, number: Unsigned) -> Tag
     requires { ⌜ next ≤ length (now s) ⌝ }
-    ensures { λ r. ⌜ r ≡ valueOf (now (s .entry)) name size next number ⌝ }
+    ensures { λ r. ⌜ r ≡ valueOf (now (s .entry)) at name size next number ⌝ }
 {
     match number {
         Unsigned::Not => Tag::Refused(Refusal::BadLength {
+            at: at,
             name: name,
             length: size,
         }),
@@ -72,6 +78,7 @@ fn value_of(s: &[u8], name: usize, size: usize, next: usize, number: Unsigned) -
             let left = s.len() - next;
             if (left as u64) < n {
                 return Tag::Refused(Refusal::TruncatedValue {
+                    at: at,
                     name: name,
                     length: size,
                     wanted: n,
@@ -81,11 +88,13 @@ fn value_of(s: &[u8], name: usize, size: usize, next: usize, number: Unsigned) -
             let end = next + n as usize;
             if text::inside(text::byte(s, end), 0x80, 0xBF) {
                 return Tag::Refused(Refusal::NonUtf8 {
+                    at: at,
                     name: name,
                     length: size,
                 });
             }
             Tag::Field {
+                at: at,
                 name: name,
                 name_length: size,
                 value: next,
@@ -102,12 +111,13 @@ fn name_place(at: usize, n: usize) -> usize
     if n == 0 { 0 } else { at }
 }
 
-// The tag whose inside is s[a..gt].
-fn tag_of(s: &[u8], a: usize, gt: usize) -> Tag
-    requires { ⌜ (a ≤ gt) × (gt < length (now s)) ⌝ }
-    ensures { λ r. ⌜ r ≡ tagOf (now (s .entry)) a (take (gt - a) (drop a (now (s .entry)))) (gt + 1) ⌝ }
+// The tag that is opened at `at` and closed at `gt`.
+fn tag_of(s: &[u8], at: usize, gt: usize) -> Tag
+    requires { ⌜ (at + 1 ≤ gt) × (gt < length (now s)) ⌝ }
+    ensures { λ r. ⌜ r ≡ tagOf (now (s .entry)) at (take (gt - (at + 1)) (drop (at + 1) (now (s .entry)))) (gt + 1) ⌝ }
 {
     let next = gt + 1;
+    let a = at + 1;
     let t = &s[a..gt];
     let c = text::find(t, 0, b':');
     let w = &t[..c];
@@ -118,13 +128,14 @@ fn tag_of(s: &[u8], a: usize, gt: usize) -> Tag
     let k = kind_of(&rest[..n]);
     match k {
         Kind::EndOfHeader => Tag::Eoh(next),
-        Kind::EndOfRecord => Tag::Eor(next),
+        Kind::EndOfRecord => Tag::Eor { at: at, next: next },
         Kind::EndOfFile => Tag::Eof,
         Kind::FieldName => {
             if c < t.len() {
-                value_of(s, name, n, next, length_after(t, c))
+                value_of(s, at, name, n, next, length_after(t, c))
             } else {
                 Tag::Refused(Refusal::MissingLength {
+                    at: at,
                     name: name,
                     length: n,
                 })
@@ -146,9 +157,9 @@ pub fn next_tag(s: &[u8], at: usize) -> Tag
         let rest = &s[a..];
         let n = text::find(rest, 0, b'>');
         if n < rest.len() {
-            tag_of(s, a, a + n)
+            tag_of(s, lt, a + n)
         } else {
-            Tag::Refused(Refusal::UnterminatedTag)
+            Tag::Refused(Refusal::UnterminatedTag(lt))
         }
     } else {
         Tag::End

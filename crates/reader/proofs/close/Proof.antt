@@ -5,16 +5,16 @@ use Rattle.reader.proofs.close.Statement.{statement}
 use Rattle.reader.proofs.close.Tie as tie
 
 returns : tie.Need-returns
-returns c = close-empty _ _ _ _ _ (omega arith) (c .if1 .taken)
+returns c = close-empty _ _ _ _ _ _ (omega arith) (c .if1 .taken)
 
 returns-2 : tie.Need-returns-2
-returns-2 c = close-many _ _ _ _ _ (omega arith) (c .before .if1 .left) (c .if2 .taken)
+returns-2 c = close-many _ _ _ _ _ _ (omega arith) (c .before .if1 .left) (c .if2 .taken)
 
 sub-if3 : tie.Need-sub-if3
 sub-if3 c = search needs
 
 returns-3 : tie.Need-returns-3
-returns-3 c = close-few _ _ _ _ _ (omega arith) (c .before .before .if1 .left) (c .before .if2 .left) (c .if3 .taken)
+returns-3 c = close-few _ _ _ _ _ _ (omega arith) (c .before .before .if1 .left) (c .before .if2 .left) (c .if3 .taken)
 
 mul-move-rows : tie.Need-mul-move-rows
 mul-move-rows c = search needs
@@ -28,17 +28,17 @@ cast-move-rows c = search needs
 move-rows-requires : tie.Need-move-rows-requires
 move-rows-requires c κs = search needs
 
-add-t10 : tie.Need-add-t10
-add-t10 c = search needs
+add-t11 : tie.Need-add-t11
+add-t11 c = search needs
 
-add-t8 : tie.Need-add-t8
-add-t8 c = search needs
+add-t9 : tie.Need-add-t9
+add-t9 c = search needs
 
 same-length : tie.Need-same-length
 same-length c = search needs
 
 returns-4 : tie.Need-returns-4
-returns-4 c = close-moved _ _ _ _ _ (omega arith) (c .before .before .before .before .before .before .if1 .left) (c .before .before .before .before .before .if2 .left) _ (c .before .before .before .before .if3 .left) (c .before .before .move-rows .kept .0) (c .before .before .move-rows .ensures)
+returns-4 c = close-moved _ _ _ _ _ _ (omega arith) (c .before .before .before .before .before .before .if1 .left) (c .before .before .before .before .before .if2 .left) _ (c .before .before .before .before .if3 .left) (c .before .before .move-rows .kept .0) (c .before .before .move-rows .ensures)
 
 pub close-spec : {M : Type 1} → statement M
 close-spec =
@@ -52,7 +52,7 @@ close-spec =
     add-move-rows
     cast-move-rows
     move-rows-requires
-    add-t10
-    add-t8
+    add-t11
+    add-t9
     same-length
     returns-4)

@@ -37,23 +37,23 @@ of-closed-requires c κs = search needs
 enum-known-tag-3 : tie.Need-enum-known-tag-3
 enum-known-tag-3 c = search needs
 
-cast-t35 : tie.Need-cast-t35
-cast-t35 c = name-fits _ _ _ (c .before .before .before .next-tag .ensures) (omega arith) _ _ _ _ (c .before .tag3 .given .1)
+cast-name-at : tie.Need-cast-name-at
+cast-name-at c = name-fits _ _ _ (c .before .before .before .next-tag .ensures) (omega arith) _ _ _ _ _ (c .before .tag3 .given .1)
 
-cast-t36 : tie.Need-cast-t36
-cast-t36 c = name-length-fits _ _ _ (c .before .before .before .next-tag .ensures) (omega arith) _ _ _ _ (c .before .tag3 .given .1)
+cast-name-size : tie.Need-cast-name-size
+cast-name-size c = name-length-fits _ _ _ (c .before .before .before .next-tag .ensures) (omega arith) _ _ _ _ _ (c .before .tag3 .given .1)
 
-cast-t37 : tie.Need-cast-t37
-cast-t37 c = value-fits _ _ _ (c .before .before .before .next-tag .ensures) (omega arith) _ _ _ _ (c .before .tag3 .given .1)
+cast-value-at : tie.Need-cast-value-at
+cast-value-at c = value-fits _ _ _ (c .before .before .before .next-tag .ensures) (omega arith) _ _ _ _ _ (c .before .tag3 .given .1)
 
-cast-t38 : tie.Need-cast-t38
-cast-t38 c = value-length-fits _ _ _ (c .before .before .before .next-tag .ensures) (omega arith) _ _ _ _ (c .before .tag3 .given .1)
+cast-value-size : tie.Need-cast-value-size
+cast-value-size c = value-length-fits _ _ _ (c .before .before .before .next-tag .ensures) (omega arith) _ _ _ _ _ (c .before .tag3 .given .1)
 
 with-field-requires : tie.Need-with-field-requires
 with-field-requires c κs = search needs
 
 add-of-kept : tie.Need-add-of-kept
-add-of-kept c = end-fits _ _ _ (c .before .before .before .before .before .before .next-tag .ensures) (omega arith) _ _ _ _ (c .before .before .before .before .tag3 .given .1)
+add-of-kept c = end-fits _ _ _ (c .before .before .before .before .before .before .next-tag .ensures) (omega arith) _ _ _ _ _ (c .before .before .before .before .tag3 .given .1)
 
 of-kept-requires-2 : tie.Need-of-kept-requires-2
 of-kept-requires-2 c κs = search needs
@@ -89,13 +89,13 @@ same-length-6 : tie.Need-same-length-6
 same-length-6 c = search needs
 
 returns-4 : tie.Need-returns-4
-returns-4 c = turn-eor _ _ _ _ _ _ _ _ (c .before .before .before .before .before .before .before .before .before .next-tag .ensures) _ (c .before .before .before .before .before .before .before .tag2 .given .1) _ _ (c .before .before .before .close .ensures) _ (c .of-closed .ensures)
+returns-4 c = turn-eor _ _ _ _ _ _ _ _ (c .before .before .before .before .before .before .before .before .before .next-tag .ensures) _ _ (c .before .before .before .before .before .before .before .tag2 .given .1) _ _ (c .before .before .before .close .ensures) _ (c .of-closed .ensures)
 
 same-length-7 : tie.Need-same-length-7
 same-length-7 c = search needs
 
 returns-5 : tie.Need-returns-5
-returns-5 c = turn-field _ _ _ _ _ _ _ _ (c .before .before .before .before .before .before .before .next-tag .ensures) _ _ _ _ (c .before .before .before .before .before .tag3 .given .1) _ (c .before .before .with-field .ensures) (c .before .before .before .before .before .before .before .before .before .before .args .hand .now) (c .before .before .with-field .kept .1 .0) (c .before .before .before .before .before .before .before .before .before .before .pre .1) _ (c .of-kept2 .ensures)
+returns-5 c = turn-field _ _ _ _ _ _ _ _ (c .before .before .before .before .before .before .before .next-tag .ensures) _ _ _ _ _ (c .before .before .before .before .before .tag3 .given .1) _ (c .before .before .with-field .ensures) (c .before .before .before .before .before .before .before .before .before .before .args .hand .now) (c .before .before .with-field .kept .1 .0) (c .before .before .before .before .before .before .before .before .before .before .pre .1) _ (c .of-kept2 .ensures)
 
 returns-6 : tie.Need-returns-6
 returns-6 c = turn-refused _ _ _ _ _ _ _ _ (c .before .before .before .next-tag .ensures) _ (c .before .tag4 .given .1)
@@ -115,10 +115,10 @@ next-turn-spec =
     close-requires
     of-closed-requires
     enum-known-tag-3
-    cast-t35
-    cast-t36
-    cast-t37
-    cast-t38
+    cast-name-at
+    cast-name-size
+    cast-value-at
+    cast-value-size
     with-field-requires
     add-of-kept
     of-kept-requires-2

@@ -4,6 +4,7 @@ use Rattle.show.proofs.write_refusal.Statement.{statement}
 use Rattle.show.proofs.write_refusal.Tie as tie
 use Rattle.show.proofs.write_refusal.Reads as reads
 use Rattle.refusals.proofs.number.Reads as number-reads
+use Rattle.refusals.proofs.place.Reads as place-reads
 
 slice-aggregate-put-bytes : tie.Need-slice-aggregate-put-bytes
 slice-aggregate-put-bytes c = search needs
@@ -14,11 +15,14 @@ put-bytes-requires c κs = search refused-first
 number-requires : tie.Need-number-requires
 number-requires c κs = search needs
 
-cast-put-number : tie.Need-cast-put-number
-cast-put-number c = search needs
+cast-put-told : tie.Need-cast-put-told
+cast-put-told c = search needs
 
-put-number-requires : tie.Need-put-number-requires
-put-number-requires c κs = search refused-next
+place-requires : tie.Need-place-requires
+place-requires c κs = search needs
+
+put-told-requires : tie.Need-put-told-requires
+put-told-requires c κs = search refused-next
 
 same-length : tie.Need-same-length
 same-length c = search needs
@@ -33,7 +37,8 @@ write-refusal-spec =
     slice-aggregate-put-bytes
     put-bytes-requires
     number-requires
-    cast-put-number
-    put-number-requires
+    cast-put-told
+    place-requires
+    put-told-requires
     same-length
     returns)

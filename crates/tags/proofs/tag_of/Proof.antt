@@ -7,6 +7,9 @@ use Rattle.tags.proofs.tag_of.Tie as tie
 add-next : tie.Need-add-next
 add-next c = search needs
 
+add-a : tie.Need-add-a
+add-a c = search needs
+
 sub-t : tie.Need-sub-t
 sub-t c = search needs
 
@@ -87,6 +90,7 @@ tag-of-spec =
     tie.close
     (tie.spec
     add-next
+    add-a
     sub-t
     part-t-start
     part-t-end
