@@ -54,21 +54,22 @@ fn reading(g: &mut Group) {
     g.same("an empty name", (sys::read(b"<:1>x<EOR>", &mut row).rows, row), (1, [1, 0, 0, 4, 1]));
     let wrap = "<A:18446744073709551615>x";
     g.same(wrap, (ours(wrap), unless_panics(|| theirs(wrap))), (Err((6, "A".to_string(), u64::MAX, 1)), None));
-    // what is refused here and read there: how many records, and how many fields the first has
-    let mut refused = |text: &str, number, read| {
+    // what is refused here, and where, and read there: how many records, and how many fields the first has
+    let mut refused = |text: &str, told, read| {
         let mut table = vec![7; 5 * 65_536];
-        g.same("refused", sys::read(text.as_bytes(), &mut table).refusal, number);
+        let answer = sys::read(text.as_bytes(), &mut table);
+        g.same("refused", (answer.refusal, answer.place), told);
         g.same("refused", table.iter().all(|&n| n == 0), true);
         let records = parse_adif(text).expect("records");
         g.same("read", (records.len(), records.first().map_or(0, |record| record.len())), read);
     };
-    refused(&long(), 1, (0, 0));
-    refused(&((0..257).map(|n| format!("<A{n}:0>")).collect::<String>() + "<EOR>"), 8, (1, 257));
-    refused(&"<A:0><EOR>".repeat(65_536), 9, (65_536, 1));
+    refused(&long(), (1, 0), (0, 0));
+    refused(&((0..257).map(|n| format!("<A{n}:0>")).collect::<String>() + "<EOR>"), (8, 1_938), (1, 257));
+    refused(&"<A:0><EOR>".repeat(65_536), (9, 655_355), (65_536, 1));
     let bad = sys::read(BAD, &mut row);
     g.same("not UTF-8", (bad.refusal, bad.place), (2, 0));
     let few = sys::read(b"<A:0><B:0><EOR>", &mut row);
-    g.same("few rows", (few.refusal, row), (10, [0; 5]));
+    g.same("few rows", (few.refusal, few.place, row), (10, 10, [0; 5]));
 }
 
 /// What the library writes of rows over a text.

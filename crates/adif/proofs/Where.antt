@@ -16,11 +16,11 @@ use Rattle.refusals.specs.declared.Refusal.{Refusal}
 use Rattle.refusals.specs.declared.Refusal.the-variants.{ManyNames, ManyRecords, FewRows}
 use Rattle.refusals.specs.declared.Verdict.{Verdict}
 use Rattle.refusals.specs.declared.Verdict.the-variants.{Accepted, Refused as RefusedText}
-use Rattle.tags.specs.Tags.{lt, gt, colon, byKind, tagAt}
+use Rattle.tags.specs.Tags.{lt, gt, byKind, tagAt}
 use Rattle.tags.specs.declared.Kind.the-variants.{EndOfHeader, EndOfRecord, EndOfFile}
 use Rattle.tags.specs.declared.Tag.the-variants.{End, Refused}
 use Rattle.adif.specs.Records.{Item, eoh, eor, field, Ending, whole, fault, Outcome, records, refused, Turn, on, no, then, total, put, close, finish, act}
-use Rattle.adif.specs.Grammar.{Field, Why, plain, Items, Without, Tagged, Sized, Says, over, eof-tag, eoh-tag, eor-tag, field-tag, unterminated, missing, bad, truncated, torn}
+use Rattle.adif.specs.Grammar.{Field, Why, plain, Items, Without, Tagged, Says, over, eof-tag, eoh-tag, eor-tag, field-tag, unterminated, missing, bad, truncated, torn}
 use Rattle.adif.specs.Reading.{Row, RowsRead, rowName, rows, onto, accepted, readRun, readTags, readText}
 use Rattle.adif.specs.Told.{fieldOf, toldBy}
 use Rattle.adif.specs.Theorems.{Split, RefusedAtATag, PlacedAtTheTag, Leaves, stay, pass, Here, a-tag, a-field, an-eor, the-end, Met, PlacedWhereMet}

@@ -4,7 +4,7 @@ use mathlib.Core.Bool.{Bool, true, false}
 use Prim.Native.Nat.{ℕ, _+_, _-_, _^_, _≤_, _<_}
 use native.Mathlib.Omega.{arith}
 use mathlib.Core.List.{List}
-use lib.ListN.{length, getD, take, drop, length-take, length-drop}
+use lib.ListN.{length, getD, take, drop, length-take}
 use mir.Syntax.{w64}
 use mir.Val.{Fits}
 use lib.Dec.{eqb}
@@ -121,12 +121,6 @@ name-fits s a e c i p q l h =
     omega (arith, length-take c (take (e - a) (drop a s)), length-take (e - a) (drop a s))
 
 -- the first tag
-rest-length : (s : List ℕ) (a : ℕ) → length (take (length s - a) (drop a s)) ≡ length s - a
-rest-length s a = rw (rest s a) (length-drop a s)
-
-pub inside-fits : (s : List ℕ) (a n : ℕ) → n < length (take (length s - a) (drop a s)) → a + n < length s
-inside-fits s a n h = omega (arith, rest-length s a)
-
 pub tag-past : (s : List ℕ) (at : ℕ) → length s ≤ at → End ≡ tagAt s at
 unfolding tagAt openAt ends
 tag-past s at h = simp (le-ltb (at + lead (other lt) (drop at s)) (length s) (omega arith))
@@ -136,18 +130,11 @@ module _ (s : List ℕ) (at i : ℕ) (e : i ≡ ends (other lt) s at) where
   unfolding tagAt openAt
   tag-none h = simp (← e, le-ltb i (length s) h)
 
-  module _ (h : i < length s) (n : ℕ) (f : n ≡ ends (other gt) (take (length s - (i + 1)) (drop (i + 1) s)) 0) where
-    closes : i + 1 + n ≡ ends (other gt) s (i + 1)
-    unfolding ends
-    closes = rw (f, rest s (i + 1)) (omega arith)
-
-    pub tag-open : length (take (length s - (i + 1)) (drop (i + 1) s)) ≤ n → Refused (UnterminatedTag i) ≡ tagAt s at
+  module _ (h : i < length s) (n : ℕ) (f : n ≡ ends (other gt) s (i + 1)) where
+    pub tag-open : length s ≤ n → Refused (UnterminatedTag i) ≡ tagAt s at
     unfolding tagAt openAt closedAt
-    tag-open g =
-        simp (← e, lt-ltb i (length s) h, ← closes, le-ltb (i + 1 + n) (length s) (omega (arith, rest-length s (i + 1))))
+    tag-open g = simp (← e, lt-ltb i (length s) h, ← f, le-ltb n (length s) g)
 
-    pub tag-is : (r : Tag) → n < length (take (length s - (i + 1)) (drop (i + 1) s))
-        → r ≡ tagOf s i (take (i + 1 + n - (i + 1)) (drop (i + 1) s)) (i + 1 + n + 1) → r ≡ tagAt s at
+    pub tag-is : (r : Tag) → n < length s → r ≡ tagOf s i (take (n - (i + 1)) (drop (i + 1) s)) (n + 1) → r ≡ tagAt s at
     unfolding tagAt openAt closedAt
-    tag-is r g q =
-        simp (← e, lt-ltb i (length s) h, ← closes, lt-ltb (i + 1 + n) (length s) (omega (arith, rest-length s (i + 1)))) q
+    tag-is r g q = simp (← e, lt-ltb i (length s) h, ← f, lt-ltb n (length s) g) q

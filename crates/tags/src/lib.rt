@@ -154,10 +154,9 @@ pub fn next_tag(s: &[u8], at: usize) -> Tag
     let lt = text::find(s, at, b'<');
     if lt < s.len() {
         let a = lt + 1;
-        let rest = &s[a..];
-        let n = text::find(rest, 0, b'>');
-        if n < rest.len() {
-            tag_of(s, lt, a + n)
+        let gt = text::find(s, a, b'>');
+        if gt < s.len() {
+            tag_of(s, lt, gt)
         } else {
             Tag::Refused(Refusal::UnterminatedTag(lt))
         }

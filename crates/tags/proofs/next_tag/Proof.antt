@@ -1,4 +1,4 @@
-use Rattle.tags.proofs.TagLaws.{inside-fits, tag-past, tag-none, tag-open, tag-is}
+use Rattle.tags.proofs.TagLaws.{tag-past, tag-none, tag-open, tag-is}
 use borrow.Author.Needs.{needs}
 use Rattle.tags.proofs.next_tag.Statement.{statement}
 use Rattle.tags.proofs.next_tag.Tie as tie
@@ -12,23 +12,11 @@ find-requires c κs = search needs
 add-a : tie.Need-add-a
 add-a c = search needs
 
-sub-rest : tie.Need-sub-rest
-sub-rest c = search needs
-
-part-rest-start : tie.Need-part-rest-start
-part-rest-start c = search needs
-
-part-rest-end : tie.Need-part-rest-end
-part-rest-end c = search needs
-
 find-requires-2 : tie.Need-find-requires-2
 find-requires-2 c κs = search needs
 
-add-tag-of : tie.Need-add-tag-of
-add-tag-of c = search (needs, inside-fits)
-
 tag-of-requires : tie.Need-tag-of-requires
-tag-of-requires c κs = (search needs, search inside-fits)
+tag-of-requires c κs = search needs
 
 returns-2 : tie.Need-returns-2
 returns-2 c = search tag-is
@@ -46,11 +34,7 @@ next-tag-spec =
     returns
     find-requires
     add-a
-    sub-rest
-    part-rest-start
-    part-rest-end
     find-requires-2
-    add-tag-of
     tag-of-requires
     returns-2
     returns-3
