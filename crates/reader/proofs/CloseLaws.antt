@@ -44,13 +44,13 @@ module _ (hand : List Row) (held count used at : ℕ) (before : List ℕ) (hl : 
         close-some at (length before / 5) (take held hand) done there ∙ rw (le-ltb (length done) 65535 (omega (arith, S .counted)))
 
     module _ (f : count < 65535) where
-      pub close-few : length before / 5 - used < held → Closes (take held hand) count used at before before (the-variants.Refused (FewRows at))
+      pub close-few : length before - used * 5 < held * 5 → Closes (take held hand) count used at before before (the-variants.Refused (FewRows at))
       unfolding Closes
       close-few h was done S =
           close-some at (length before / 5) (take held hand) done there
           ∙ rw (lt-ltb (length done) 65535 (omega (arith, S .counted)), lt-leb (total done + length (take held hand)) (length before / 5) (omega (arith, S .taken, len)))
 
-      pub close-moved : (after : List ℕ) → held ≤ length before / 5 - used → length after ≡ length before
+      pub close-moved : (after : List ℕ) → held * 5 ≤ length before - used * 5 → length after ≡ length before
           → after ≡ sets before (used * 5) (laid (count + 1) (take held hand))
           → Closes (take held hand) count used at before after (the-variants.At (count + 1) (used + held))
       unfolding Closes

@@ -49,7 +49,7 @@ fn close(
     rows: usize,
     at: usize,
 ) -> Closed
-    requires { ⌜ (held ≤ length (now hand)) × (5 * rows ≤ length (now table)) ⌝ }
+    requires { ⌜ (held ≤ length (now hand)) × (held ≤ 256) × (5 * rows ≤ length (now table)) ⌝ }
     ensures { λ r. ⌜ Closes (take held (now (hand .entry))) records rows at (now (table .entry)) (now (table .exit)) r ⌝ }
 {
     if held == 0 {
@@ -58,7 +58,7 @@ fn close(
     if RECORDS <= records {
         return Closed::Refused(Refusal::ManyRecords(at));
     }
-    if table.len() / 5 - rows < held {
+    if table.len() - rows * 5 < held * 5 {
         return Closed::Refused(Refusal::FewRows(at));
     }
     hand::move_rows(table, rows * 5, (records + 1) as u32, hand, held);
@@ -77,7 +77,7 @@ fn finish(
     rows: usize,
     at: usize,
 ) -> Reading
-    requires { ⌜ (held ≤ length (now hand)) × (5 * rows ≤ length (now table)) ⌝ }
+    requires { ⌜ (held ≤ length (now hand)) × (held ≤ 256) × (5 * rows ≤ length (now table)) ⌝ }
     ensures { λ r. ⌜ Finishes (take held (now (hand .entry))) records rows at (now (table .entry)) (now (table .exit)) r ⌝ }
 {
     if records == 0 {

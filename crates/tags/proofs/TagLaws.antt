@@ -47,11 +47,11 @@ module _ (n : List ℕ) (p : Bool) (e : p ≡ sameRaised n eoh) where
 
 -- a length and a value
 pub length-part : (t : List ℕ) (c e : ℕ) (u : List ℕ) (r : Unsigned)
-    → e ≡ ends (other colon) (take (length t - (c + 1)) (drop (c + 1) t)) 0
-    → u ≡ trimmed (take e (take (length t - (c + 1)) (drop (c + 1) t)))
-    → r ≡ unsignedOf u → r ≡ lengthAfter t c
-unfolding lengthAfter colonAt
-length-part t c e u r p q w = w ∙ ap unsignedOf q ∙ simp (p, rest)
+    → e ≡ ends (other colon) t (c + 1) → u ≡ trimmed (take (e - (c + 1)) (drop (c + 1) t)) → r ≡ unsignedOf u → r ≡ lengthAfter t c
+unfolding lengthAfter colonAt ends
+length-part t c e u r p q w =
+    let z : e - (c + 1) ≡ 0 + lead (other colon) (drop (c + 1) t) = omega (arith, p) in
+    w ∙ ap unsignedOf q ∙ rw z refl
 
 module _ (s : List ℕ) (i a k next : ℕ) (num : Unsigned) where
   pub value-bad : num ≡ Not → Refused (BadLength i a k) ≡ valueOf s i a k next num

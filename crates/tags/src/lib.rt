@@ -58,9 +58,8 @@ fn length_after(t: &[u8], c: usize) -> Unsigned
     ensures { λ r. ⌜ r ≡ lengthAfter (now (t .entry)) c ⌝ }
 {
     let a = c + 1;
-    let rest = &t[a..];
-    let e = text::find(rest, 0, b':');
-    decimal::parse_unsigned(text::space::trim(&rest[..e]))
+    let e = text::find(t, a, b':');
+    decimal::parse_unsigned(text::space::trim(&t[a..e]))
 }
 
 // The field whose tag is opened at `at`, whose name is the `size` bytes at `name`, and whose value starts at `next`.

@@ -10,8 +10,14 @@ returns c = close-empty _ _ _ _ _ _ (omega arith) (c .if1 .taken)
 returns-2 : tie.Need-returns-2
 returns-2 c = close-many _ _ _ _ _ _ (omega arith) (c .before .if1 .left) (c .if2 .taken)
 
+mul-if3 : tie.Need-mul-if3
+mul-if3 c = search needs
+
 sub-if3 : tie.Need-sub-if3
 sub-if3 c = search needs
+
+mul-if3-2 : tie.Need-mul-if3-2
+mul-if3-2 c = search needs
 
 returns-3 : tie.Need-returns-3
 returns-3 c = close-few _ _ _ _ _ _ (omega arith) (c .before .before .if1 .left) (c .before .if2 .left) (c .if3 .taken)
@@ -31,8 +37,8 @@ move-rows-requires c κs = search needs
 add-t11 : tie.Need-add-t11
 add-t11 c = search needs
 
-add-t9 : tie.Need-add-t9
-add-t9 c = search needs
+add-t12 : tie.Need-add-t12
+add-t12 c = search needs
 
 same-length : tie.Need-same-length
 same-length c = search needs
@@ -46,13 +52,15 @@ close-spec =
     (tie.spec
     returns
     returns-2
+    mul-if3
     sub-if3
+    mul-if3-2
     returns-3
     mul-move-rows
     add-move-rows
     cast-move-rows
     move-rows-requires
     add-t11
-    add-t9
+    add-t12
     same-length
     returns-4)

@@ -1,5 +1,4 @@
 use Rattle.tags.proofs.TagLaws.{length-part}
-use lib.Seq.{length-take-le}
 use borrow.Author.Needs.{needs}
 use Rattle.tags.proofs.length_after.Statement.{statement}
 use Rattle.tags.proofs.length_after.Tie as tie
@@ -7,20 +6,17 @@ use Rattle.tags.proofs.length_after.Tie as tie
 add-a : tie.Need-add-a
 add-a c = search needs
 
-sub-rest : tie.Need-sub-rest
-sub-rest c = search needs
-
-part-rest-start : tie.Need-part-rest-start
-part-rest-start c = search needs
-
-part-rest-end : tie.Need-part-rest-end
-part-rest-end c = search needs
-
 find-requires : tie.Need-find-requires
 find-requires c κs = search needs
 
-slice-aggregate-trim : tie.Need-slice-aggregate-trim
-slice-aggregate-trim c = search (needs, length-take-le)
+sub-trim : tie.Need-sub-trim
+sub-trim c = search needs
+
+part-trim-start : tie.Need-part-trim-start
+part-trim-start c = search needs
+
+part-trim-end : tie.Need-part-trim-end
+part-trim-end c = search needs
 
 trim-requires : tie.Need-trim-requires
 trim-requires c κs = search needs
@@ -36,11 +32,10 @@ length-after-spec =
     tie.close
     (tie.spec
     add-a
-    sub-rest
-    part-rest-start
-    part-rest-end
     find-requires
-    slice-aggregate-trim
+    sub-trim
+    part-trim-start
+    part-trim-end
     trim-requires
     parse-unsigned-requires
     returns)
