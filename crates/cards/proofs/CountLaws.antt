@@ -75,7 +75,7 @@ module _ (cs : List Contact) (es : List Entry) (hits fates : List ℕ) where
 
   counted_before : (m s : ℕ) → Counts m s ≡ false → any (λ i. both (Alike i m) (Bears i s)) m ≡ true
   unfolding counts
-  counted_before m s v = not-false _ v
+  counted_before m s v = v
 
   apart : (a b c : Bool) → both a b ≡ false → both a (both b c) ≡ false
   apart true b c e = rw e refl

@@ -72,10 +72,10 @@ first_of : (xs : List ℕ) → get_or (take 8 xs) 0 0 ≡ get_or xs 0 0
 first_of [] = refl
 first_of (x ∷ xs) = refl
 
-module _ (name : List ℕ) (a c : ℕ) (ea : a ≡ get_or name 0 0) (ec : c ≡ get_or name 2 0) (t : Bool) (et : t ≡ telling a c) (h : not t ≡ true) where
+module _ (name : List ℕ) (a c : ℕ) (ea : a ≡ get_or name 0 0) (ec : c ≡ get_or name 2 0) (t : Bool) (et : t ≡ telling a c) (h : t ≡ false) where
   silent : telling (get_or name 0 0) (get_or name 2 0) ≡ true → ⊥
   silent y =
-      let n : ◌≡◌ {A = Bool} true false = sym y ∙ rw (← ea, ← ec) (sym et ∙ not-true t h) in
+      let n : ◌≡◌ {A = Bool} true false = sym y ∙ rw (← ea, ← ec) (sym et ∙ h) in
       let o : ◌≡◌ {A = ℕ} 0 1 = cc in
       omega arith
 
@@ -100,7 +100,7 @@ module _ (name : List ℕ) (a c : ℕ) (ea : a ≡ get_or name 0 0) (ec : c ≡ 
 
 -- a row that is passed over, and one that is not
 module _ (text : List ℕ) (row : Row) (was : Heard) (name : List ℕ) (en : name ≡ name_in text row) where
-  row_passed : (a c : ℕ) (t : Bool) → a ≡ get_or name 0 0 → c ≡ get_or name 2 0 → t ≡ telling a c → not t ≡ true → was ≡ heard_with (name_in text row) (value_place row) was
+  row_passed : (a c : ℕ) (t : Bool) → a ≡ get_or name 0 0 → c ≡ get_or name 2 0 → t ≡ telling a c → t ≡ false → was ≡ heard_with (name_in text row) (value_place row) was
   row_passed a c t ea ec et h = quiet name a c ea ec t et h (value_place row) was ∙ ap (λ (n : List ℕ). heard_with n (value_place row) was) en
 
   row_heard : (v : Place) (r : Heard) → v ≡ value_place row → r ≡ heard_with name v was → r ≡ heard_with (name_in text row) (value_place row) was
@@ -127,7 +127,7 @@ row_on text t first count i was row now h l ew er en =
 
 module _ (text t : List ℕ) (first count i : ℕ) (was : Heard) (row : Row) (name : List ℕ) (h : 0 < i) (l : i ≤ count)
     (ew : was ≡ heard_of text (rows_from t (first + i) (count - i))) (er : row ≡ row_at t (first + (i - 1))) (en : name ≡ name_in text row) where
-  pub row_silent : (a c : ℕ) (b : Bool) → a ≡ get_or name 0 0 → c ≡ get_or name 2 0 → b ≡ telling a c → not b ≡ true
+  pub row_silent : (a c : ℕ) (b : Bool) → a ≡ get_or name 0 0 → c ≡ get_or name 2 0 → b ≡ telling a c → b ≡ false
       → was ≡ heard_of text (rows_from t (first + (i - 1)) (count - (i - 1)))
   row_silent a c b ea ec eb n = row_on text t first count i was row was h l ew er (row_passed text row was name en a c b ea ec eb n)
 

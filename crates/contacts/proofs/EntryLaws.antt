@@ -112,10 +112,10 @@ module _ (s : List ℕ) (at end : ℕ) (ee : end ≡ end_at s at) where
       unfolding good_at fits sound contact_at services_at
       split_good = rw (← ee, le-leb end (length s) l, ← es, eq-eqb (at + 2 + size) end f, ← ei, ← ev, ← eh) refl
 
-      pub good_head : not h ≡ true → false ≡ good_at s at
-      good_head n = let z : h ≡ false = not-true h n in sym (split_good ∙ rw z refl)
+      pub good_head : h ≡ false → false ≡ good_at s at
+      good_head n = let z : h ≡ false = n in sym (split_good ∙ rw z refl)
 
-      pub good_texts : not h ≡ false → (t : Bool) → t ≡ sound_texts (text_at s (at + 11)) (text_at s (after s (at + 11))) (text_at s (after s (after s (at + 11)))) (text_at s (after s (after s (after s (at + 11))))) (text_at s (after s (after s (after s (after s (at + 11))))))
+      pub good_texts : h ≡ true → (t : Bool) → t ≡ sound_texts (text_at s (at + 11)) (text_at s (after s (at + 11))) (text_at s (after s (after s (at + 11)))) (text_at s (after s (after s (after s (at + 11))))) (text_at s (after s (after s (after s (after s (at + 11))))))
           → t ≡ good_at s at
       unfolding call_at date_at time_at band_at mode_at
-      good_texts n t e = let z : h ≡ true = not-false h n in e ∙ sym (split_good ∙ rw z refl)
+      good_texts n t e = let z : h ≡ true = n in e ∙ sym (split_good ∙ rw z refl)

@@ -36,16 +36,16 @@ module _ (s : List ℕ) (n k at last : ℕ) (q : Entries s n k at last) (h : k <
   unfolding Entries entries_from
   split = let e : n - k ≡ suc (n - (k + 1)) = omega arith in rw (← eg) at (rw e at q)
 
-  pub entries_bad : not g ≡ true → Refused MalformedList ≡ entries_from s n n 5 0
-  entries_bad b = let z : g ≡ false = not-true g b in rw z at split
+  pub entries_bad : g ≡ false → Refused MalformedList ≡ entries_from s n n 5 0
+  entries_bad b = let z : g ≡ false = b in rw z at split
 
-  module _ (b : not g ≡ false) where
+  module _ (b : g ≡ true) where
     pub entries_inside : (to : ℕ) → to ≡ end_at s at → to ≤ length s
-    entries_inside to e = rw e (good_inside s at (sym eg ∙ not-false g b))
+    entries_inside to e = rw e (good_inside s at (sym eg ∙ b))
 
     module _ (id : ℕ) (ei : id ≡ id_at s at) where
       passed : pick (ltb last id) (entries_from s n (n - (k + 1)) (end_at s at) id) (Refused IdsNotRising) ≡ entries_from s n n 5 0
-      passed = let z : g ≡ true = not-false g b in rw ei (rw z at split)
+      passed = let z : g ≡ true = b in rw ei (rw z at split)
 
       pub entries_low : id ≤ last → Refused IdsNotRising ≡ entries_from s n n 5 0
       entries_low l = rw (le-ltb last id l) at passed

@@ -20,11 +20,11 @@ module _ (s : List ℕ) (i : ℕ) (h : i < length s) (t : Bool) (e : t ≡ withi
   split : all_digits (drop i s) ≡ both t (all_digits (drop (i + 1) s))
   split = rw (drop-cons s i 0 h, add-one, e) refl
 
-  pub digits_stop : not t ≡ true → false ≡ all_digits s
-  digits_stop n = let z : t ≡ false = not-true t n in sym (rw z at split) ∙ q
+  pub digits_stop : t ≡ false → false ≡ all_digits s
+  digits_stop n = let z : t ≡ false = n in sym (rw z at split) ∙ q
 
-  pub digits_on : not t ≡ false → all_digits (drop (i + 1) s) ≡ all_digits s
-  digits_on n = let z : t ≡ true = not-false t n in sym (rw z at split) ∙ q
+  pub digits_on : t ≡ true → all_digits (drop (i + 1) s) ≡ all_digits s
+  digits_on n = let z : t ≡ true = n in sym (rw z at split) ∙ q
 
 pub digits_end : (s : List ℕ) (i : ℕ) → length s ≤ i → all_digits (drop i s) ≡ all_digits s → true ≡ all_digits s
 digits_end s i h q = rw (drop_of_length-le s h) at q

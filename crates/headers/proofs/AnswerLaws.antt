@@ -76,14 +76,14 @@ module _ (was w : List ℕ) (n : ℕ) (e : n ≡ capped (length w)) (f : Written
   room m em = exact_room was w f fit_is m em
 
 module _ (was w : List ℕ) (good g : Bool) (eg : g ≡ good) where
-  pub bad_text : not g ≡ true → Unwritten BadRow ≡ answer_of good w (length was)
+  pub bad_text : g ≡ false → Unwritten BadRow ≡ answer_of good w (length was)
   unfolding answer_of
-  bad_text h = rw (← eg, not-true g h) refl
+  bad_text h = rw (← eg, h) refl
 
-  module _ (h : not g ≡ false) (n : ℕ) (e : n ≡ capped (length w)) (f : Written) (ef : f ≡ fitted (Bytes n) (length was)) where
+  module _ (h : g ≡ true) (n : ℕ) (e : n ≡ capped (length w)) (f : Written) (ef : f ≡ fitted (Bytes n) (length was)) where
     answer : fitted (Bytes (length w)) (length was) ≡ answer_of good w (length was)
     unfolding answer_of
-    answer = rw (← eg, not-false g h) refl
+    answer = rw (← eg, h) refl
 
     pub unfit : (why : Refusal) → f ≡ Unwritten why → Unwritten why ≡ answer_of good w (length was)
     unfit why ew = sym ew ∙ fit_is was w n e f ef ∙ answer

@@ -35,16 +35,16 @@ module _ (text : List ℕ) (r s : Row) (limit : ℕ) where
     other_code n = rw (ne_eqb (get_or r 4 0) (get_or s 4 0) (λ z. n (ep ∙ z ∙ sym eq))) refl
 
     module _ (f : p ≡ q) (x y : Moment) (t : Bool) (ex : x ≡ moment_in r) (ey : y ≡ moment_in s) (et : t ≡ near x y limit) where
-      pub other_time : not t ≡ true → false ≡ Test
+      pub other_time : t ≡ false → false ≡ Test
       unfolding alike
       other_time n =
-          let u : near (moment_in r) (moment_in s) limit ≡ false = rw (← ex, ← ey, ← et) (not-true t n) in
+          let u : near (moment_in r) (moment_in s) limit ≡ false = rw (← ex, ← ey, ← et) n in
           rw (eq-eqb (get_or r 4 0) (get_or s 4 0) (sym ep ∙ f ∙ eq), u) (sym (both_no (keys_in_file text (key_in r) text (key_in s))))
 
-      pub same_time : not t ≡ false → (k o : Key) (v : Bool) → k ≡ key_in r → o ≡ key_in s → v ≡ keys_in_file text k text o → v ≡ Test
+      pub same_time : t ≡ true → (k o : Key) (v : Bool) → k ≡ key_in r → o ≡ key_in s → v ≡ keys_in_file text k text o → v ≡ Test
       unfolding alike
       same_time n k o v ek eo ev =
-          let u : near (moment_in r) (moment_in s) limit ≡ true = rw (← ex, ← ey, ← et) (not-false t n) in
+          let u : near (moment_in r) (moment_in s) limit ≡ true = rw (← ex, ← ey, ← et) n in
           rw (eq-eqb (get_or r 4 0) (get_or s 4 0) (sym ep ∙ f ∙ eq), u) (ev ∙ rw (ek, eo) refl ∙ sym (both_yes (keys_in_file text (key_in r) text (key_in s))))
 
 -- ---- what is alike has the same code

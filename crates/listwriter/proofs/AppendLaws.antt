@@ -76,13 +76,13 @@ module _ (was : List ℕ) (used count top id services : ℕ) (call date time ban
     unfolding sound
     sound_is = es ∙ rw (ea, eb) refl
 
-    pub unsound : not s ≡ true → Entered was was used count top D (Refused MalformedList)
+    pub unsound : s ≡ false → Entered was was used count top D (Refused MalformedList)
     unfolding Entered entered_as append_by
-    unsound n = let z : sound D ≡ false = sym sound_is ∙ not-true s n in (rw z refl, refl)
+    unsound n = let z : sound D ≡ false = sym sound_is ∙ n in (rw z refl, refl)
 
-    module _ (ns : not s ≡ false) where
+    module _ (ns : s ≡ true) where
       good : sound D ≡ true
-      good = sym sound_is ∙ not-false s ns
+      good = sym sound_is ∙ ns
 
       pub low : id ≤ top → Entered was was used count top D (Refused IdsNotRising)
       unfolding Entered entered_as append_by

@@ -47,13 +47,13 @@ module _ (s : List ℕ) (count : ℕ) where
       tests : g ≡ both (both (leb 5 (length s)) (eqb (count_of s) count)) (ltb count 4294967295)
       tests = eg ∙ rw (et, en) refl
 
-      pub heading_bad : not g ≡ true → Refused MalformedList ≡ heading_of s count
+      pub heading_bad : g ≡ false → Refused MalformedList ≡ heading_of s count
       unfolding heading_of
-      heading_bad h = rw (ne_eqb (length s) 0 b, eq-eqb (get_or s 0 0) 1 v, sym tests ∙ not-true g h) refl
+      heading_bad h = rw (ne_eqb (length s) 0 b, eq-eqb (get_or s 0 0) 1 v, sym tests ∙ h) refl
 
-      pub heading_good : not g ≡ false → Accepted ≡ heading_of s count
+      pub heading_good : g ≡ true → Accepted ≡ heading_of s count
       unfolding heading_of
-      heading_good h = rw (ne_eqb (length s) 0 b, eq-eqb (get_or s 0 0) 1 v, sym tests ∙ not-false g h) refl
+      heading_good h = rw (ne_eqb (length s) 0 b, eq-eqb (get_or s 0 0) 1 v, sym tests ∙ h) refl
 
 pub heading_front : (was s : List ℕ) (used count : ℕ) (v : Verdict) → s ≡ take used was → v ≡ heading_of s count → v ≡ heading_of (take used was) count
 heading_front was s used count v es ev = rw es at ev

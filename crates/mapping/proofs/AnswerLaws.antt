@@ -114,22 +114,22 @@ module _ (text table : List ℕ) (first count : ℕ) (r : Answer) (q : Qso) (eq 
     unfolding mapped_to
     ends_past l m = rw (le-leb _ _ h, lt-leb (first + count) (length table / 5) (omega arith)) (er ∙ ap (refused BadRow) eq)
 
-    pub no_record : first ≤ length table / 5 → count ≤ length table / 5 - first → (b : Bool) → b ≡ is_record text (rows_from table first count) → not b ≡ true
+    pub no_record : first ≤ length table / 5 → count ≤ length table / 5 - first → (b : Bool) → b ≡ is_record text (rows_from table first count) → b ≡ false
         → r ≡ mapped_to text table first count
     unfolding mapped_to
     no_record l m b eb n = rw (le-leb _ _ h, le-leb (first + count) (length table / 5) (omega arith), ← eb) (by b n)
       where
-        by : (b : Bool) → not b ≡ true → r ≡ pick b (mapped text (rows_from table first count)) (refused BadRow empty_qso)
+        by : (b : Bool) → b ≡ false → r ≡ pick b (mapped text (rows_from table first count)) (refused BadRow empty_qso)
         by true z = absurd (let z : ◌≡◌ {A = ℕ} 0 1 = cc in omega arith)
         by false z = er ∙ ap (refused BadRow) eq
 
 module _ (text table : List ℕ) (first count : ℕ) where
   pub a_record : (r : Answer) (b : Bool) → length text ≤ 16777216 → first ≤ length table / 5 → count ≤ length table / 5 - first → b ≡ is_record text (rows_from table first count)
-      → not b ≡ false → r ≡ mapped text (rows_from table first count) → r ≡ mapped_to text table first count
+      → b ≡ true → r ≡ mapped text (rows_from table first count) → r ≡ mapped_to text table first count
   unfolding mapped_to
   a_record r b h l m eb n er = rw (le-leb _ _ h, le-leb (first + count) (length table / 5) (omega arith), ← eb) (by b n)
     where
-      by : (b : Bool) → not b ≡ false → r ≡ pick b (mapped text (rows_from table first count)) (refused BadRow empty_qso)
+      by : (b : Bool) → b ≡ true → r ≡ pick b (mapped text (rows_from table first count)) (refused BadRow empty_qso)
       by true z = er
       by false z = absurd (let z : ◌≡◌ {A = ℕ} 0 1 = cc in omega arith)
 

@@ -91,17 +91,17 @@ module _ (text t : List ℕ) (first count : ℕ) where
     unfolding is_record
     from_first = rw (opened, eb) refl
 
-    pub bad_first : not b ≡ true → false ≡ is_record text (rows_from t first count)
+    pub bad_first : b ≡ false → false ≡ is_record text (rows_from t first count)
     bad_first n = rw from_first (by b n)
       where
-        by : (b : Bool) → not b ≡ true → false ≡ both b (goes_on text p (rows_from t (first + 1) (count - 1)))
+        by : (b : Bool) → b ≡ false → false ≡ both b (goes_on text p (rows_from t (first + 1) (count - 1)))
         by true z = absurd (let z : ◌≡◌ {A = ℕ} 0 1 = cc in omega arith)
         by false z = refl
 
-    pub good_first : not b ≡ false → goes_on text p (rows_from t (first + 1) (count - 1)) ≡ is_record text (rows_from t first count)
+    pub good_first : b ≡ true → goes_on text p (rows_from t (first + 1) (count - 1)) ≡ is_record text (rows_from t first count)
     good_first n = rw from_first (by b n)
       where
-        by : (b : Bool) → not b ≡ false → goes_on text p (rows_from t (first + 1) (count - 1)) ≡ both b (goes_on text p (rows_from t (first + 1) (count - 1)))
+        by : (b : Bool) → b ≡ true → goes_on text p (rows_from t (first + 1) (count - 1)) ≡ both b (goes_on text p (rows_from t (first + 1) (count - 1)))
         by true z = refl
         by false z = absurd (let z : ◌≡◌ {A = ℕ} 0 1 = cc in omega arith)
 
@@ -113,18 +113,18 @@ module _ (text t : List ℕ) (first count : ℕ) where
           let f : first + (i + 1) ≡ suc (first + i) = omega arith in
           rw (f, eb, er) (ap (λ (n : ℕ). goes_on text p (rows_from t (first + i) n)) (sym k) ∙ e)
 
-      pub bad_next : not b ≡ true → false ≡ is_record text (rows_from t first count)
+      pub bad_next : b ≡ false → false ≡ is_record text (rows_from t first count)
       bad_next n = by b n next_row
         where
-          by : (b : Bool) → not b ≡ true → both b (goes_on text r (rows_from t (first + (i + 1)) (count - (i + 1)))) ≡ is_record text (rows_from t first count)
+          by : (b : Bool) → b ≡ false → both b (goes_on text r (rows_from t (first + (i + 1)) (count - (i + 1)))) ≡ is_record text (rows_from t first count)
               → false ≡ is_record text (rows_from t first count)
           by true z q = absurd (let z : ◌≡◌ {A = ℕ} 0 1 = cc in omega arith)
           by false z q = q
 
-      pub good_next : not b ≡ false → goes_on text r (rows_from t (first + (i + 1)) (count - (i + 1))) ≡ is_record text (rows_from t first count)
+      pub good_next : b ≡ true → goes_on text r (rows_from t (first + (i + 1)) (count - (i + 1))) ≡ is_record text (rows_from t first count)
       good_next n = by b n next_row
         where
-          by : (b : Bool) → not b ≡ false → both b (goes_on text r (rows_from t (first + (i + 1)) (count - (i + 1)))) ≡ is_record text (rows_from t first count)
+          by : (b : Bool) → b ≡ true → both b (goes_on text r (rows_from t (first + (i + 1)) (count - (i + 1)))) ≡ is_record text (rows_from t first count)
               → goes_on text r (rows_from t (first + (i + 1)) (count - (i + 1))) ≡ is_record text (rows_from t first count)
           by true z q = q
           by false z q = absurd (let z : ◌≡◌ {A = ℕ} 0 1 = cc in omega arith)

@@ -101,19 +101,19 @@ module _ (text t : List ℕ) (first count k i : ℕ) (a : first ≤ i) (h : i < 
   unfolding order_raised
   lower = sym (eb ∙ rw (ex, column_capital k) refl)
 
-  pub cut_on : not b ≡ false → Cutting text t first count k (i + 1)
+  pub cut_on : b ≡ true → Cutting text t first count k (i + 1)
   unfolding Cutting
   cut_on g =
       let e : fields_between text t i count ≡ row_field text row ∷ fields_between text t (i + 1) count = first_between text t i count h row er in
-      let y : is_less (order (row_field text row).name (name_at k)) ≡ true = lower ∙ not-false b g in
+      let y : is_less (order (row_field text row).name (name_at k)) ≡ true = lower ∙ g in
       let l : below (name_at k) (fields_between text t first count) ≡ fields_between text t first i ++ (row_field text row ∷ below (name_at k) (fields_between text t (i + 1) count))
       = c.0 ∙ rw (e, y) refl in
       let u : above (name_at k) (fields_between text t first count) ≡ above (name_at k) (fields_between text t (i + 1) count) = c.1 ∙ rw (e, y) refl in
       (l ∙ rw (last_between text t first i a row er, append_assoc) refl, u)
 
-  module _ (g : not b ≡ true) where
+  module _ (g : b ≡ false) where
     stops : is_less (order (row_field text row).name (name_at k)) ≡ false
-    stops = lower ∙ not-true b g
+    stops = lower ∙ g
 
     rest : fields_between text t i count ≡ row_field text row ∷ fields_between text t (i + 1) count
     rest = first_between text t i count h row er

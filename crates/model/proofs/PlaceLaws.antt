@@ -64,17 +64,17 @@ module _ (text : List ℕ) (ps : List Place) (i : ℕ) (l : length ps ≡ 13) (e
     cut : both (is_fit text (get_or ps i absent)) (are_fit text (drop (suc i) ps)) ≡ are_fit text ps
     cut = ap (are_fit text) (sym (drop-cons ps i absent (omega arith))) ∙ e
 
-    pub one_unfit : not t ≡ true → false ≡ are_fit text ps
+    pub one_unfit : t ≡ false → false ≡ are_fit text ps
     one_unfit n = rw (← cut, ← et) (by t n)
       where
-        by : (b : Bool) → not b ≡ true → false ≡ both b (are_fit text (drop (suc i) ps))
+        by : (b : Bool) → b ≡ false → false ≡ both b (are_fit text (drop (suc i) ps))
         by true z = absurd (let z : ◌≡◌ {A = ℕ} 0 1 = cc in omega arith)
         by false z = refl
 
-    pub next_fit : not t ≡ false → are_fit text (drop (i + 1) ps) ≡ are_fit text ps
+    pub next_fit : t ≡ true → are_fit text (drop (i + 1) ps) ≡ are_fit text ps
     next_fit n = rw (add-one, ← cut, ← et) (by t n)
       where
-        by : (b : Bool) → not b ≡ false → are_fit text (drop (suc i) ps) ≡ both b (are_fit text (drop (suc i) ps))
+        by : (b : Bool) → b ≡ true → are_fit text (drop (suc i) ps) ≡ both b (are_fit text (drop (suc i) ps))
         by true z = refl
         by false z = absurd (let z : ◌≡◌ {A = ℕ} 0 1 = cc in omega arith)
 
@@ -152,18 +152,18 @@ module _ (text : List ℕ) (q : Qso) (a : Answer) where
   too_long h e = rw (lt-leb _ _ h) e
 
   module _ (h : length text ≤ 16777216) (t : Bool) (et : t ≡ is_qso text q) where
-    pub not_fit : not t ≡ true → a ≡ refused BadRow q → a ≡ normalized_to text q
+    pub not_fit : t ≡ false → a ≡ refused BadRow q → a ≡ normalized_to text q
     unfolding normalized_to
     not_fit n e = rw (le-leb _ _ h, ← et) (by t n)
       where
-        by : (b : Bool) → not b ≡ true → a ≡ pick b (accepted (normal_qso text q)) (refused BadRow q)
+        by : (b : Bool) → b ≡ false → a ≡ pick b (accepted (normal_qso text q)) (refused BadRow q)
         by true z = absurd (let z : ◌≡◌ {A = ℕ} 0 1 = cc in omega arith)
         by false z = e
 
-    pub fit : (n : Qso) → not t ≡ false → n ≡ normal_qso text q → a ≡ accepted n → a ≡ normalized_to text q
+    pub fit : (n : Qso) → t ≡ true → n ≡ normal_qso text q → a ≡ accepted n → a ≡ normalized_to text q
     unfolding normalized_to
     fit n z en e = rw (le-leb _ _ h, ← et) (by t z)
       where
-        by : (b : Bool) → not b ≡ false → a ≡ pick b (accepted (normal_qso text q)) (refused BadRow q)
+        by : (b : Bool) → b ≡ true → a ≡ pick b (accepted (normal_qso text q)) (refused BadRow q)
         by true z = e ∙ ap accepted en
         by false z = absurd (let z : ◌≡◌ {A = ℕ} 0 1 = cc in omega arith)

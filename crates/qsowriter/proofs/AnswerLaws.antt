@@ -48,15 +48,15 @@ module _ (text : List ℕ) (q : Qso) (t : List ℕ) (count : ℕ) where
     too_high h = rw (le-leb (length text) 16777216 l, high, h) refl
 
     module _ (n : b ≡ false) (i : Bool) (ei : i ≡ is_qso text q) where
-      pub no_qso : not i ≡ true → Refused BadRow ≡ qso_verdict text q t count
+      pub no_qso : i ≡ false → Refused BadRow ≡ qso_verdict text q t count
       unfolding qso_verdict
       no_qso h =
-          let z : is_qso text q ≡ false = sym ei ∙ not-true i h in
+          let z : is_qso text q ≡ false = sym ei ∙ h in
           rw (le-leb (length text) 16777216 l, high, n, z) refl
 
-      module _ (g : not i ≡ false) where
+      module _ (g : i ≡ true) where
         is_qso_lem : is_qso text q ≡ true
-        is_qso_lem = sym ei ∙ not-false i g
+        is_qso_lem = sym ei ∙ g
 
         pub many_rows : length t / 5 < count → Refused BadRow ≡ qso_verdict text q t count
         unfolding qso_verdict

@@ -122,11 +122,11 @@ module _ (text : List ℕ) (cells : List Cell) (t : List ℕ) (count n c : ℕ) 
   from : going text fs n c p (rows_from t i (count - i)) ≡ and_then v (rows_after text fs (pick taken c (c + 1)) row (rows_from t (i + 1) (count - (i + 1))))
   from = rw (rows_cons t count i h, ev, ew, er) (one_row text fs n c p (row_at t i) (rows_from t (i + 1) (count - (i + 1))) taken is_taken_lem a b)
 
-  pub check_stop : not f ≡ true → Checking text cells t count n c p i → v ≡ extra_verdict text (cell_fields text column_order cells) (rows_of t count)
+  pub check_stop : f ≡ false → Checking text cells t count n c p i → v ≡ extra_verdict text (cell_fields text column_order cells) (rows_of t count)
   unfolding Checking
-  check_stop g q = stops v _ (sym ef ∙ not-true f g) ∙ sym from ∙ q
+  check_stop g q = stops v _ (sym ef ∙ g) ∙ sym from ∙ q
 
-  module _ (g : not f ≡ false) (d : ℕ) (ed : d ≡ pick taken c (c + 1)) where
+  module _ (g : f ≡ true) (d : ℕ) (ed : d ≡ pick taken c (c + 1)) where
     pub check_on : Checking text cells t count n c p i → Checking text cells t count 1 d row (i + 1)
     unfolding Checking
     check_on q = rw ed (sym (from ∙ rw (fine v f ef g) refl) ∙ q)

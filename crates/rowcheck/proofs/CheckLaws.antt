@@ -69,36 +69,36 @@ counted_other n c r e = rw (ne_eqb (record_in r) n e)
 
 -- the verdict, test by test
 module _ (text : List ℕ) (n c : ℕ) (p r : Row) (a : Bool) (ea : a ≡ placed text r) where
-  pub not_placed : not a ≡ true → Refused BadRow ≡ verdict text n c p r
+  pub not_placed : a ≡ false → Refused BadRow ≡ verdict text n c p r
   unfolding verdict
-  not_placed h = rw (← ea, not-true a h)
+  not_placed h = rw (← ea, h)
 
-  module _ (ha : not a ≡ false) (s : Bool) (es : s ≡ sound text r) where
-    pub not_sound : not s ≡ true → Refused BadRow ≡ verdict text n c p r
+  module _ (ha : a ≡ true) (s : Bool) (es : s ≡ sound text r) where
+    pub not_sound : s ≡ false → Refused BadRow ≡ verdict text n c p r
     unfolding verdict
-    not_sound h = rw (← ea, not-false a ha, ← es, not-true s h)
+    not_sound h = rw (← ea, ha, ← es, h)
 
-    module _ (hs : not s ≡ false) (b : Bool) (eb : b ≡ follows text n p r) where
-      pub not_next : not b ≡ true → Refused BadRow ≡ verdict text n c p r
+    module _ (hs : s ≡ true) (b : Bool) (eb : b ≡ follows text n p r) where
+      pub not_next : b ≡ false → Refused BadRow ≡ verdict text n c p r
       unfolding verdict
-      not_next h = rw (← ea, not-false a ha, ← es, not-false s hs, ← eb, not-true b h)
+      not_next h = rw (← ea, ha, ← es, hs, ← eb, h)
 
-      module _ (hb : not b ≡ false) (w : Bool) (ew : w ≡ writable (name_in text r)) where
-        pub not_named : not w ≡ true → Refused BadName ≡ verdict text n c p r
+      module _ (hb : b ≡ true) (w : Bool) (ew : w ≡ writable (name_in text r)) where
+        pub not_named : w ≡ false → Refused BadName ≡ verdict text n c p r
         unfolding verdict
-        not_named h = rw (← ea, not-false a ha, ← es, not-false s hs, ← eb, not-false b hb, ← ew, not-true w h)
+        not_named h = rw (← ea, ha, ← es, hs, ← eb, hb, ← ew, h)
 
-        module _ (hw : not w ≡ false) (k : ℕ) (ek : k ≡ counted n c r) where
+        module _ (hw : w ≡ true) (k : ℕ) (ek : k ≡ counted n c r) where
           pub many_names : 256 < k → Refused (ManyNames 0) ≡ verdict text n c p r
           unfolding verdict
-          many_names h = rw (← ea, not-false a ha, ← es, not-false s hs, ← eb, not-false b hb, ← ew, not-false w hw, ← ek, lt-leb k 256 h)
+          many_names h = rw (← ea, ha, ← es, hs, ← eb, hb, ← ew, hw, ← ek, lt-leb k 256 h)
 
           pub many_records : k ≤ 256 → 65535 < record_in r → Refused (ManyRecords 0) ≡ verdict text n c p r
           unfolding verdict
           many_records h g =
-              rw (← ea, not-false a ha, ← es, not-false s hs, ← eb, not-false b hb, ← ew, not-false w hw, ← ek, le-leb k 256 h, lt-leb (record_in r) 65535 g)
+              rw (← ea, ha, ← es, hs, ← eb, hb, ← ew, hw, ← ek, le-leb k 256 h, lt-leb (record_in r) 65535 g)
 
           pub all_fine : k ≤ 256 → record_in r ≤ 65535 → Accepted ≡ verdict text n c p r
           unfolding verdict
           all_fine h g =
-              rw (← ea, not-false a ha, ← es, not-false s hs, ← eb, not-false b hb, ← ew, not-false w hw, ← ek, le-leb k 256 h, le-leb (record_in r) 65535 g)
+              rw (← ea, ha, ← es, hs, ← eb, hb, ← ew, hw, ← ek, le-leb k 256 h, le-leb (record_in r) 65535 g)

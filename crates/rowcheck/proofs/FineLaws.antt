@@ -20,8 +20,8 @@ use Rattle.rowcheck.specs.Check.{Row, record_in, name_in, placed, sound, is_less
 pub refused_not : (why : Refusal) → Refused why ≡ Accepted → ⊥
 refused_not why e = let z : ◌≡◌ {A = ℕ} 0 1 = cc in omega arith
 
-pub fine : (v : Verdict) (f : Bool) → f ≡ is_fine v → not f ≡ false → v ≡ Accepted
-fine v f e h = by v (sym e ∙ not-false f h)
+pub fine : (v : Verdict) (f : Bool) → f ≡ is_fine v → f ≡ true → v ≡ Accepted
+fine v f e h = by v (sym e ∙ h)
   where
     by : (w : Verdict) → is_fine w ≡ true → w ≡ Accepted
     by Accepted e = refl

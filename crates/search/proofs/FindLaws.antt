@@ -251,16 +251,16 @@ module _ (s : List ℕ) (row : Row) (text : List ℕ) (w : Wanted) (limit code :
   match_other p e n = rw (ne_eqb (get_or row 2 0) code (λ z. n (e ∙ z))) refl
 
   module _ (p : ℕ) (x : Moment) (t : Bool) (e : p ≡ get_or row 2 0) (f : p ≡ code) (ex : x ≡ row_moment row) (et : t ≡ near w.moment x limit) where
-    pub match_far : not t ≡ true → false ≡ Test
+    pub match_far : t ≡ false → false ≡ Test
     unfolding row_tested row_matches
     match_far n =
-        let u : near w.moment (row_moment row) limit ≡ false = rw (← ex, ← et) (not-true t n) in
+        let u : near w.moment (row_moment row) limit ≡ false = rw (← ex, ← et) n in
         rw (eq-eqb (get_or row 2 0) code (sym e ∙ f), u) (sym (both_no Own))
 
-    pub match_key : not t ≡ false → (a b d : ℕ) (k : Key) (r : Bool) → a ≡ get_or row 6 0 → b ≡ get_or row 10 0 → d ≡ get_or row 9 0 → k ≡ key_at s a b d → r ≡ keys_in_log text w.key s k → r ≡ Test
+    pub match_key : t ≡ true → (a b d : ℕ) (k : Key) (r : Bool) → a ≡ get_or row 6 0 → b ≡ get_or row 10 0 → d ≡ get_or row 9 0 → k ≡ key_at s a b d → r ≡ keys_in_log text w.key s k → r ≡ Test
     unfolding row_tested row_matches keys_in_log key_at
     match_key n a b d k r ea eb ed ek er =
-        let u : near w.moment (row_moment row) limit ≡ true = rw (← ex, ← et) (not-false t n) in
+        let u : near w.moment (row_moment row) limit ≡ true = rw (← ex, ← et) n in
         let q : r ≡ Own = er ∙ rw (ek, ea, eb, ed, place_says s (get_or row 6 0), place_says s (get_or row 10 0), place_says s (get_or row 9 0)) refl in
         rw (eq-eqb (get_or row 2 0) code (sym e ∙ f), u) (q ∙ sym (both_yes Own))
 

@@ -31,20 +31,20 @@ unfolding short7
 are_all_short s t u v w x y a b c d r ea eb ec ed er = rw (← ea, ← eb, ← ec, ← ed) er
 
 module _ (call grid name state county cq itu was : List ℕ) (g : Bool) (eg : g ≡ all7 call grid name state county cq itu) where
-  pub bad_text : not g ≡ true → Unwritten BadRow ≡ station_answer call grid name state county cq itu (length was)
+  pub bad_text : g ≡ false → Unwritten BadRow ≡ station_answer call grid name state county cq itu (length was)
   unfolding station_answer station_by
-  bad_text h = rw (← eg, not-true g h) refl
+  bad_text h = rw (← eg, h) refl
 
-  module _ (h : not g ≡ false) (s : Bool) (es : s ≡ short7 call grid name state county cq itu) where
-    pub long_text : not s ≡ true → Unwritten TooLong ≡ station_answer call grid name state county cq itu (length was)
+  module _ (h : g ≡ true) (s : Bool) (es : s ≡ short7 call grid name state county cq itu) where
+    pub long_text : s ≡ false → Unwritten TooLong ≡ station_answer call grid name state county cq itu (length was)
     unfolding station_answer station_by
-    long_text k = rw (← eg, not-false g h, ← es, not-true s k) refl
+    long_text k = rw (← eg, h, ← es, k) refl
 
-    module _ (k : not s ≡ false) (n : ℕ) (e : n ≡ capped (length (station_text call grid name state county cq itu))) (f : Written)
+    module _ (k : s ≡ true) (n : ℕ) (e : n ≡ capped (length (station_text call grid name state county cq itu))) (f : Written)
         (ef : f ≡ fitted (Bytes n) (length was)) where
       answer : fitted (Bytes (length (station_text call grid name state county cq itu))) (length was) ≡ station_answer call grid name state county cq itu (length was)
       unfolding station_answer station_by
-      answer = rw (← eg, not-false g h, ← es, not-false s k) refl
+      answer = rw (← eg, h, ← es, k) refl
 
       measured : f ≡ fitted (Bytes (length (station_text call grid name state county cq itu))) (length was)
       measured = fit_is was (station_text call grid name state county cq itu) n e f ef

@@ -1,6 +1,6 @@
 -- Laws of `specs/Space.antt`. Assumes nothing.
 use mathlib.Core.Path.{◌≡◌, refl, sym, ap, ◌∙◌}
-use mathlib.Core.Bool.{Bool, true, false, not}
+use mathlib.Core.Bool.{Bool, true, false}
 use mathlib.Core.Logic.{⊎_elim}
 use Prim.Native.Nat.{ℕ, suc, ◌+◌, ◌-◌, ◌≤◌, ◌<◌}
 use native.Mathlib.Nat.{le_refl, add-zero, zero-add, suc-ne-zero, not-suc-le-zero, le_of_suc-le-suc, eq-or-lt_of_le}
@@ -9,8 +9,8 @@ use mathlib.Core.List.{List, [], ◌∷◌, reverse, reverse-cons}
 use lib.ListN.{length, take, drop, get_or, length-drop, length-reverse, get_or-append, get_or-eq_default}
 use lib.Seq.{get_or-drop, get_or_at, take_all}
 use lib.Dec.{lit≤, eqb, leb}
-use borrow.Author.Tests.{not-false, eq-eqb, ne_eqb, lt-leb, leb-true}
-use Rattle.text.specs.Pick.{both, within}
+use borrow.Author.Tests.{eq-eqb, ne_eqb, lt-leb, leb-true}
+use Rattle.text.specs.Pick.{within}
 use Rattle.text.specs.Space.{space1, space2, space3, space80, space_len, space_back, width, trim_start, trim_end, trimmed, blank}
 use Rattle.text.specs.Find.{other}
 use Rattle.text.specs.Walk.{ends, lead}
@@ -190,11 +190,11 @@ starts s e = here space_len s 0 0 (lead space_len s) e refl (simp zero-add)
 
 -- between two plain bytes nothing is trimmed
 pub trim_whole : (s : List ℕ) (x y : ℕ) (p q : Bool) → x ≡ get_or s 0 0 → y ≡ get_or (reverse s) 0 0
-    → p ≡ within x 0x21 0x7F → q ≡ within y 0x21 0x7F → not p ≡ false → not q ≡ false → s ≡ trimmed s
+    → p ≡ within x 0x21 0x7F → q ≡ within y 0x21 0x7F → p ≡ true → q ≡ true → s ≡ trimmed s
 unfolding trimmed
 trim_whole s x y p q ex ey ep eq front-plain back-plain =
-    let front : 0 ≡ trim_start s = starts s (plain_front s 0 x p ex ep (not-false p front-plain)) in
-    let end : length s - 0 ≡ trim_end s = end_here s 0 0 (plain_back (reverse s) 0 y q ey eq (not-false q back-plain)) refl (end_start s) in
+    let front : 0 ≡ trim_start s = starts s (plain_front s 0 x p ex ep front-plain) in
+    let end : length s - 0 ≡ trim_end s = end_here s 0 0 (plain_back (reverse s) 0 y q ey eq back-plain) refl (end_start s) in
     rw (← front, ← end) (sym (take_all (length s - 0) s (omega arith)))
 
 pub blank_is : (s : List ℕ) (a : ℕ) → a ≡ trim_start s → eqb a (length s) ≡ blank s

@@ -1,7 +1,7 @@
 -- Laws of `specs/Utf8.antt`. Assumes nothing.
 use mathlib.Core.Path.{◌≡◌}
 use mathlib.Core.Bool.{Bool, true, false}
-use Prim.Native.Nat.{ℕ, zero, ◌+◌, ◌≤◌, ◌<◌}
+use Prim.Native.Nat.{ℕ, ◌+◌, ◌≤◌, ◌<◌}
 use native.Mathlib.Nat.{add-zero}
 use native.Mathlib.Omega.{arith}
 use mathlib.Core.List.{List, [], ◌∷◌}
@@ -9,7 +9,7 @@ use lib.ListN.{length, drop, get_or, length-drop}
 use lib.Seq.{get_or-drop}
 use lib.Dec.{T, leb, ltb, ltb→lt, lit≤}
 use borrow.Author.Tests.{le-leb, lt-leb}
-use Rattle.text.specs.Pick.{pick, both, within}
+use Rattle.text.specs.Pick.{pick, within}
 use Rattle.text.specs.Utf8.{long_char, char_len, second3, second4}
 use Rattle.text.proofs.BoolLaws.{both_no}
 

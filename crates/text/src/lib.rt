@@ -1,4 +1,6 @@
 // What Rust's `str` gives to rigflow, on byte slices: tests of bytes, the search for a byte, UTF-8 and white space.
+#![tactic(auto)]
+
 ghost use Rattle.std.specs.Prelude.{◌≡◌, ◌≤◌, length, get_or};
 ghost use Rattle.text.specs.Pick.{both, either, within};
 ghost use Rattle.text.specs.Walk.{ends};

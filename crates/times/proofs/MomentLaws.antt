@@ -90,38 +90,38 @@ hundred_not u e = rw e refl
 
 -- ---- the moment
 module _ (date clock : ℕ) (t : Bool) (et : t ≡ is_day (date / 10000) (date / 100 % 100) (date % 100)) where
-  pub no_day : not t ≡ true → Never ≡ moment_at date clock
+  pub no_day : t ≡ false → Never ≡ moment_at date clock
   unfolding moment_at
-  no_day h = rw (← et, not-true t h) refl
+  no_day h = rw (← et, h) refl
 
-  module _ (y : not t ≡ false) (u : Bool) (eu : u ≡ is_clock (clock / 10000) (clock / 100 % 100) (clock % 100)) where
-    pub no_time : not u ≡ true → Never ≡ moment_at date clock
+  module _ (y : t ≡ true) (u : Bool) (eu : u ≡ is_clock (clock / 10000) (clock / 100 % 100) (clock % 100)) where
+    pub no_time : u ≡ false → Never ≡ moment_at date clock
     unfolding moment_at
-    no_time h = rw (← et, not-false t y, ← eu, not-true u h) refl
+    no_time h = rw (← et, y, ← eu, h) refl
 
-    pub moment_is : (n s : ℕ) → not u ≡ false → n ≡ day_number (date / 10000) (date / 100 % 100) (date % 100)
+    pub moment_is : (n s : ℕ) → u ≡ true → n ≡ day_number (date / 10000) (date / 100 % 100) (date % 100)
         → s ≡ seconds_of n (clock / 10000) (clock / 100 % 100) (clock % 100) → At s ≡ moment_at date clock
     unfolding moment_at
-    moment_is n s h en es = rw (← et, not-false t y, ← eu, not-false u h, ← en, es) refl
+    moment_is n s h en es = rw (← et, y, ← eu, h, ← en, es) refl
 
 -- what a test of a day and of a time of day tells
-day_within : (y m d : ℕ) (t : Bool) → t ≡ is_day y m d → not t ≡ false → m ≤ 12
+day_within : (y m d : ℕ) (t : Bool) → t ≡ is_day y m d → t ≡ true → m ≤ 12
 unfolding is_day
 day_within y m d t e h =
-    leb-true m 12 (both_right (leb 1 m) (leb m 12) (both_left (within m 1 12) (within d 1 (month_days (leap y) m)) (sym e ∙ not-false t h)))
+    leb-true m 12 (both_right (leb 1 m) (leb m 12) (both_left (within m 1 12) (within d 1 (month_days (leap y) m)) (sym e ∙ h)))
 
-pub day_asked : (date : ℕ) (t : Bool) → date < 100000000 → t ≡ is_day (date / 10000) (date / 100 % 100) (date % 100) → not t ≡ false
+pub day_asked : (date : ℕ) (t : Bool) → date < 100000000 → t ≡ is_day (date / 10000) (date / 100 % 100) (date % 100) → t ≡ true
     → (date / 10000 ≤ 9999) × ((date / 100 % 100 ≤ 12) × (date % 100 ≤ 99))
 day_asked date t b e h = (omega arith, (day_within (date / 10000) (date / 100 % 100) (date % 100) t e h, omega arith))
 
-clock_within : (h m s : ℕ) (u : Bool) → u ≡ is_clock h m s → not u ≡ false → (h ≤ 23) × ((m ≤ 59) × (s ≤ 59))
+clock_within : (h m s : ℕ) (u : Bool) → u ≡ is_clock h m s → u ≡ true → (h ≤ 23) × ((m ≤ 59) × (s ≤ 59))
 unfolding is_clock
 clock_within h m s u e n =
-    let all : both (leb h 23) (both (leb m 59) (leb s 59)) ≡ true = sym e ∙ not-false u n in
+    let all : both (leb h 23) (both (leb m 59) (leb s 59)) ≡ true = sym e ∙ n in
     let rest : both (leb m 59) (leb s 59) ≡ true = both_right (leb h 23) (both (leb m 59) (leb s 59)) all in
     (leb-true h 23 (both_left (leb h 23) (both (leb m 59) (leb s 59)) all), (leb-true m 59 (both_left (leb m 59) (leb s 59) rest), leb-true s 59 (both_right (leb m 59) (leb s 59) rest)))
 
-pub seconds_asked : (n clock : ℕ) (u : Bool) → n ≤ 3661000 → u ≡ is_clock (clock / 10000) (clock / 100 % 100) (clock % 100) → not u ≡ false
+pub seconds_asked : (n clock : ℕ) (u : Bool) → n ≤ 3661000 → u ≡ is_clock (clock / 10000) (clock / 100 % 100) (clock % 100) → u ≡ true
     → (n ≤ 3661000) × ((clock / 10000 ≤ 23) × ((clock / 100 % 100 ≤ 59) × (clock % 100 ≤ 59)))
 seconds_asked n clock u b e h = (b, clock_within (clock / 10000) (clock / 100 % 100) (clock % 100) u e h)
 

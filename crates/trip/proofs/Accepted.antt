@@ -116,14 +116,14 @@ module _ (text : List ℕ) (small : length text < 2 ^ 64) where
     same_number : ends_before n (r ∷ []) ≡ false → n ≡ record_in r
     same_number e = eqb-true n (record_in r) (not_no (eqb n (record_in r)) e)
       where
-        not_no : (t : Bool) → not t ≡ false → t ≡ true
+        not_no : (t : Bool) → t ≡ true → t ≡ true
         not_no true e = refl
         not_no false e = sym e
 
     other_number : ends_before n (r ∷ []) ≡ true → n ≡ record_in r → ⊥
     other_number e = eqb-false n (record_in r) (not_yes (eqb n (record_in r)) e)
       where
-        not_yes : (t : Bool) → not t ≡ true → t ≡ false
+        not_yes : (t : Bool) → t ≡ false → t ≡ false
         not_yes true e = sym e
         not_yes false e = refl
 

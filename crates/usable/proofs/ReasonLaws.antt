@@ -14,19 +14,19 @@ module _ (call date time : List ℕ) (m x : Bool) (b : Bool) (eb : b ≡ blank c
   no_call h = rw (← eb, h) refl
 
   module _ (h : b ≡ false) (s : List ℕ) (es : s ≡ trimmed date) (d : Bool) (ed : d ≡ is_date s) where
-    pub no_date : not d ≡ true → 2 ≡ reason_by (blank call) (is_date (trimmed date)) (is_time (trimmed time)) m x
+    pub no_date : d ≡ false → 2 ≡ reason_by (blank call) (is_date (trimmed date)) (is_time (trimmed time)) m x
     unfolding reason_by
-    no_date n = rw (← eb, h, ← es, ← ed, not-true d n) refl
+    no_date n = rw (← eb, h, ← es, ← ed, n) refl
 
-    module _ (n : not d ≡ false) (u : List ℕ) (eu : u ≡ trimmed time) (t : Bool) (et : t ≡ is_time u) where
-      pub no_time : not t ≡ true → 3 ≡ reason_by (blank call) (is_date (trimmed date)) (is_time (trimmed time)) m x
+    module _ (n : d ≡ true) (u : List ℕ) (eu : u ≡ trimmed time) (t : Bool) (et : t ≡ is_time u) where
+      pub no_time : t ≡ false → 3 ≡ reason_by (blank call) (is_date (trimmed date)) (is_time (trimmed time)) m x
       unfolding reason_by
-      no_time k = rw (← eb, h, ← es, ← ed, not-false d n, ← eu, ← et, not-true t k) refl
+      no_time k = rw (← eb, h, ← es, ← ed, n, ← eu, ← et, k) refl
 
-      module _ (k : not t ≡ false) where
+      module _ (k : t ≡ true) where
         rest : reason_by (blank call) (is_date (trimmed date)) (is_time (trimmed time)) m x ≡ reason_by false true true m x
         unfolding reason_by
-        rest = rw (← eb, h, ← es, ← ed, not-false d n, ← eu, ← et, not-false t k) refl
+        rest = rw (← eb, h, ← es, ← ed, n, ← eu, ← et, k) refl
 
         pub no_mode : m ≡ true → 4 ≡ reason_by (blank call) (is_date (trimmed date)) (is_time (trimmed time)) m x
         unfolding reason_by

@@ -37,11 +37,11 @@ module _ (text t : List ℕ) (count n c : ℕ) (p : Row) (size i : ℕ) (h : i <
   unfolding check_from
   from = rw (rows_cons t count i h, ev, er) refl
 
-  pub check_stop : not f ≡ true → Checking text t count n c p size i → (r : Written) → r ≡ sized_by v 0 → r ≡ checked_of text (rows_of t count)
+  pub check_stop : f ≡ false → Checking text t count n c p size i → (r : Written) → r ≡ sized_by v 0 → r ≡ checked_of text (rows_of t count)
   unfolding Checking checked_of
-  check_stop g q r e = rw (← q.0, from) (stops v _ _ r (sym ef ∙ not-true f g) e)
+  check_stop g q r e = rw (← q.0, from) (stops v _ _ r (sym ef ∙ g) e)
 
-  module _ (g : not f ≡ false) where
+  module _ (g : f ≡ true) where
     is_fine_lem : verdict text n c p row ≡ Accepted
     is_fine_lem = sym ev ∙ fine v f ef g
 
