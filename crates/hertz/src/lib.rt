@@ -1,4 +1,6 @@
 // Binary64 in the exact window: a decimal's value by one product or quotient, and whole hertz of it, worked out from the bits.
+#![tactic(auto)]
+
 ghost use Rattle.std.specs.Prelude.{◌≡◌, ◌+◌, ◌^◌, ◌≤◌, ◌<◌};
 ghost use Rattle.hertz.specs.Value.{ten_to, parsed};
 ghost use Rattle.hertz.specs.Whole.{rounded, to_hz};
