@@ -1,4 +1,6 @@
 // Texts with the case of ASCII letters aside: capitals, and two texts compared.
+#![tactic(auto)]
+
 ghost use Rattle.std.specs.Prelude.{◌≡◌};
 ghost use Rattle.letters.specs.Capitals.{raised};
 ghost use Rattle.letters.specs.Same.{same, same_raised};
