@@ -1,4 +1,6 @@
 // Why a call refuses, with the numbers of docs/SCOPE.md; and the test of a plain text, which every call that takes one makes first.
+#![tactic(auto)]
+
 ghost use Rattle.std.specs.Prelude.{◌≡◌};
 ghost use Rattle.refusals.specs.Refusals.{number_of, place_of, name_of, name_length_of, wanted_of, left_of, of_text, of_texts};
 ghost use Rattle.refusals.specs.Written.{fitted};
