@@ -1,4 +1,6 @@
 // Numbers in decimal digits, as Rust's `parse` reads them.
+#![tactic(auto)]
+
 ghost use Rattle.std.specs.Prelude.{◌≡◌};
 ghost use Rattle.decimal.specs.Decimal.{all_digits, digits_of, unsigned_of, above_zero, below_zero, signed_of};
 
