@@ -1,4 +1,6 @@
 // Bytes put into a lent output. Each function asks for room, writes just its own bytes, and gives the place after them.
+#![tactic(auto)]
+
 ghost use Rattle.std.specs.Prelude.{◌≡◌, [], ◌∷◌, length};
 ghost use Rattle.decimal.specs.Digits.{digits, decimal};
 ghost use Rattle.output.specs.Put.{Put, Room};

@@ -2,14 +2,9 @@ use native.Mathlib.Omega.{arith}
 use borrow.Author.Rules.{rules}
 use Rattle.output.proofs.DigitLaws.{put_zero, room_last, put_last, room_more, room_digit, put_more}
 use Prim.Native.Nat.{ℕ, ◌<◌}
-use borrow.Fn.Kinds.{In}
-use borrow.Fn.PlainCycle.{Measures, is, falls, and}
 use Rattle.output.proofs.put_digits.Reads as put-digits
-use Rattle.output.proofs.put_digits.Kinds as put-digits-kinds
-use Rattle.output.proofs.+put_digits.Lts-put_digits as put-digits-lts
 use Rattle.output.proofs.put_byte.Reads as put-byte-reads
-use Rattle.output.proofs.+put_digits.{statement}
-use Rattle.output.proofs.+put_digits.Tie.{close}
+use Rattle.output.proofs.+put_digits.Goals as goal
 
 abbrev μ-put-digits : Measures 1 put-digits-kinds.ps ℕ
 μ-put-digits κs a = a.1.1.0
@@ -27,7 +22,9 @@ put-digits-returns : (t : ℕ) → put-digits-lts.Need-returns (
   put-byte-reads.Learnt,
   put-digits-below t,
   put-digits.Post,
+
 ) (put-digits-at t) put-digits.Post
+
 put-digits-returns t c = search put_zero
 
 put-digits-cast-put-byte : (t : ℕ) → put-digits-lts.Need-overflow-cast-put-byte (
@@ -35,7 +32,9 @@ put-digits-cast-put-byte : (t : ℕ) → put-digits-lts.Need-overflow-cast-put-b
   put-byte-reads.Learnt,
   put-digits-below t,
   put-digits.Post,
+
 ) (put-digits-at t) put-digits.Post
+
 put-digits-cast-put-byte t c = search rules
 
 put-digits-add-put-byte : (t : ℕ) → put-digits-lts.Need-overflow-add-put-byte (
@@ -43,7 +42,9 @@ put-digits-add-put-byte : (t : ℕ) → put-digits-lts.Need-overflow-add-put-byt
   put-byte-reads.Learnt,
   put-digits-below t,
   put-digits.Post,
+
 ) (put-digits-at t) put-digits.Post
+
 put-digits-add-put-byte t c = search rules
 
 put-digits-put-byte-requires : (t : ℕ) → put-digits-lts.Need-put-byte-requires (
@@ -51,7 +52,9 @@ put-digits-put-byte-requires : (t : ℕ) → put-digits-lts.Need-put-byte-requir
   put-byte-reads.Learnt,
   put-digits-below t,
   put-digits.Post,
+
 ) (put-digits-at t) put-digits.Post
+
 put-digits-put-byte-requires t c κs = search room_last
 
 put-digits-same-length : (t : ℕ) → put-digits-lts.Need-same-length (
@@ -59,7 +62,9 @@ put-digits-same-length : (t : ℕ) → put-digits-lts.Need-same-length (
   put-byte-reads.Learnt,
   put-digits-below t,
   put-digits.Post,
+
 ) (put-digits-at t) put-digits.Post
+
 put-digits-same-length t c = search rules
 
 put-digits-returns-2 : (t : ℕ) → put-digits-lts.Need-returns-2 (
@@ -67,7 +72,9 @@ put-digits-returns-2 : (t : ℕ) → put-digits-lts.Need-returns-2 (
   put-byte-reads.Learnt,
   put-digits-below t,
   put-digits.Post,
+
 ) (put-digits-at t) put-digits.Post
+
 put-digits-returns-2 t c = search put_last
 
 put-digits-sub-put-digits : (t : ℕ) → put-digits-lts.Need-overflow-sub-put-digits (
@@ -75,7 +82,9 @@ put-digits-sub-put-digits : (t : ℕ) → put-digits-lts.Need-overflow-sub-put-d
   put-byte-reads.Learnt,
   put-digits-below t,
   put-digits.Post,
+
 ) (put-digits-at t) put-digits.Post
+
 put-digits-sub-put-digits t c = search rules
 
 put-digits-put-digits-requires : (t : ℕ) → put-digits-lts.Need-put-digits-requires (
@@ -83,7 +92,9 @@ put-digits-put-digits-requires : (t : ℕ) → put-digits-lts.Need-put-digits-re
   put-byte-reads.Learnt,
   put-digits-below t,
   put-digits.Post,
+
 ) (put-digits-at t) put-digits.Post
+
 put-digits-put-digits-requires t c κs = (omega arith, search room_more)
 
 put-digits-cast-put-byte-2 : (t : ℕ) → put-digits-lts.Need-overflow-cast-put-byte-2 (
@@ -91,7 +102,9 @@ put-digits-cast-put-byte-2 : (t : ℕ) → put-digits-lts.Need-overflow-cast-put
   put-byte-reads.Learnt,
   put-digits-below t,
   put-digits.Post,
+
 ) (put-digits-at t) put-digits.Post
+
 put-digits-cast-put-byte-2 t c = search rules
 
 put-digits-add-put-byte-2 : (t : ℕ) → put-digits-lts.Need-overflow-add-put-byte-2 (
@@ -99,7 +112,9 @@ put-digits-add-put-byte-2 : (t : ℕ) → put-digits-lts.Need-overflow-add-put-b
   put-byte-reads.Learnt,
   put-digits-below t,
   put-digits.Post,
+
 ) (put-digits-at t) put-digits.Post
+
 put-digits-add-put-byte-2 t c = search rules
 
 put-digits-put-byte-requires-2 : (t : ℕ) → put-digits-lts.Need-put-byte-requires-2 (
@@ -107,7 +122,9 @@ put-digits-put-byte-requires-2 : (t : ℕ) → put-digits-lts.Need-put-byte-requ
   put-byte-reads.Learnt,
   put-digits-below t,
   put-digits.Post,
+
 ) (put-digits-at t) put-digits.Post
+
 put-digits-put-byte-requires-2 t c κs = search room_digit
 
 put-digits-same-length-2 : (t : ℕ) → put-digits-lts.Need-same-length-2 (
@@ -115,7 +132,9 @@ put-digits-same-length-2 : (t : ℕ) → put-digits-lts.Need-same-length-2 (
   put-byte-reads.Learnt,
   put-digits-below t,
   put-digits.Post,
+
 ) (put-digits-at t) put-digits.Post
+
 put-digits-same-length-2 t c = search rules
 
 put-digits-returns-3 : (t : ℕ) → put-digits-lts.Need-returns-3 (
@@ -123,15 +142,11 @@ put-digits-returns-3 : (t : ℕ) → put-digits-lts.Need-returns-3 (
   put-byte-reads.Learnt,
   put-digits-below t,
   put-digits.Post,
+
 ) (put-digits-at t) put-digits.Post
+
 put-digits-returns-3 t c = search put_more
 
-pub +put-digits-spec : {M : Type 1} → statement M
-+put-digits-spec = close μ-put-digits λ t. put-digits-lts.spec (
-  put-byte-reads.Asked,
-  put-byte-reads.Learnt,
-  put-digits-below t,
-  put-digits.Post,
 )
     (put-digits-at t)
     put-digits.Post

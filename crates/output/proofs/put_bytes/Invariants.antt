@@ -1,0 +1,11 @@
+use mathlib.Core.Path.{◌≡◌}
+use Prim.Native.Nat.{◌≤◌, ◌-◌, ◌+◌}
+use lib.ListN.{length}
+use Rattle.output.proofs.PutLaws.{Half}
+use Rattle.output.proofs.put_bytes.Given as goal
+
+abbrev pub invariant-loop-i : goal.invariant-loop-i
+invariant-loop-i l = (l.i ≤ length l.src) × (l.at + length l.src ≤ length l.initial.out) × (length l.out ≡ length l.initial.out) × Half l.initial.out l.out l.at l.i l.src
+
+abbrev pub decreases-loop-i : goal.decreases-loop-i
+decreases-loop-i l = length l.src - l.i
