@@ -1,4 +1,6 @@
 // The moment that a date and a time of day name, in seconds: what tells whether two contacts are near each other.
+#![tactic(auto)]
+
 ghost use Rattle.std.specs.Prelude.{◌≡◌, ◌+◌, ◌*◌, ◌≤◌, ◌<◌, true};
 ghost use Rattle.times.specs.Calendar.{leap, month_days, days_before_year, days_before_month, is_day, day_number};
 ghost use Rattle.times.specs.Moments.{date_of, clock_of, is_clock, moment_at, moment_by, moment_of, seconds_of, hundredfold};
