@@ -11,7 +11,7 @@ pub day_number-requires : goal.day_number-requires
 day_number-requires c = day_asked _ _ c.requires c.is_day.ensures c.if-not-is_day.false
 
 pub seconds-requires : goal.seconds-requires
-seconds-requires c = seconds_asked _ _ _ c.day_number.ensures.1 c.is_clock.ensures c.if-not-is_clock.false
+seconds-requires c = seconds_asked _ _ _ c.day_number.ensures.upper_bound c.is_clock.ensures c.if-not-is_clock.false
 
 pub returns : goal.returns
 returns c = search moment_is

@@ -8,8 +8,7 @@ pub returns-in-Never-b : goal.returns-in-Never-b
 returns-in-Never-b c = search second_never
 
 pub returns-in-At-b : goal.returns-in-At-b
-returns-in-At-b c = let start = c.before.before.before.before.before.before.before.before in
-    both_moments _ _ _ _ c.a-1.is _ _ _ start.ranges.window
-    c.b-1.is
+returns-in-At-b c = both_moments _ _ _ _ c.in-At.is _ _ _ c.ranges.window
+    c.in-At-b.is
     c.distance.ensures
     c.limit_of.ensures
