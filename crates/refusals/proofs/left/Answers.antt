@@ -3,58 +3,58 @@ use Rattle.refusals.specs.Refusals.{left_of}
 use Rattle.refusals.proofs.left.Goals as goal
 
 pub returns-in-TooLong : goal.returns-in-TooLong
-returns-in-TooLong c = sym (ap left_of c.enum_told-1.is)
+returns-in-TooLong c = sym (ap left_of c.in-TooLong.is)
 
 pub returns-in-NotUtf8 : goal.returns-in-NotUtf8
-returns-in-NotUtf8 c = sym (ap left_of c.enum_told-in-NotUtf8-1.is)
+returns-in-NotUtf8 c = sym (ap left_of c.in-NotUtf8.is)
 
 pub returns-in-UnterminatedTag : goal.returns-in-UnterminatedTag
-returns-in-UnterminatedTag c = sym (ap left_of c.enum_told-in-UnterminatedTag-1.is)
+returns-in-UnterminatedTag c = sym (ap left_of c.in-UnterminatedTag.is)
 
 pub returns-in-MissingLength : goal.returns-in-MissingLength
-returns-in-MissingLength c = sym (ap left_of c.enum_told-in-MissingLength-1.is)
+returns-in-MissingLength c = sym (ap left_of c.in-MissingLength.is)
 
 pub returns-in-BadLength : goal.returns-in-BadLength
-returns-in-BadLength c = sym (ap left_of c.enum_told-in-BadLength-1.is)
+returns-in-BadLength c = sym (ap left_of c.in-BadLength.is)
 
 pub returns-in-TruncatedValue : goal.returns-in-TruncatedValue
-returns-in-TruncatedValue c = sym (ap left_of c.r-1.is)
+returns-in-TruncatedValue c = sym (ap left_of c.in-TruncatedValue.is)
 
 pub returns-in-NonUtf8 : goal.returns-in-NonUtf8
-returns-in-NonUtf8 c = sym (ap left_of c.enum_told-in-NonUtf8-1.is)
+returns-in-NonUtf8 c = sym (ap left_of c.in-NonUtf8.is)
 
 pub returns-in-ManyNames : goal.returns-in-ManyNames
-returns-in-ManyNames c = sym (ap left_of c.enum_told-in-ManyNames-1.is)
+returns-in-ManyNames c = sym (ap left_of c.in-ManyNames.is)
 
 pub returns-in-ManyRecords : goal.returns-in-ManyRecords
-returns-in-ManyRecords c = sym (ap left_of c.enum_told-in-ManyRecords-1.is)
+returns-in-ManyRecords c = sym (ap left_of c.in-ManyRecords.is)
 
 pub returns-in-FewRows : goal.returns-in-FewRows
-returns-in-FewRows c = sym (ap left_of c.enum_told-in-FewRows-1.is)
+returns-in-FewRows c = sym (ap left_of c.in-FewRows.is)
 
 pub returns-in-BadRow : goal.returns-in-BadRow
-returns-in-BadRow c = sym (ap left_of c.enum_told-in-BadRow-1.is)
+returns-in-BadRow c = sym (ap left_of c.in-BadRow.is)
 
 pub returns-in-BadName : goal.returns-in-BadName
-returns-in-BadName c = sym (ap left_of c.enum_told-in-BadName-1.is)
+returns-in-BadName c = sym (ap left_of c.in-BadName.is)
 
 pub returns-in-ShortOutput : goal.returns-in-ShortOutput
-returns-in-ShortOutput c = sym (ap left_of c.enum_told-in-ShortOutput-1.is)
+returns-in-ShortOutput c = sym (ap left_of c.in-ShortOutput.is)
 
 pub returns-in-FrequencyTooHigh : goal.returns-in-FrequencyTooHigh
-returns-in-FrequencyTooHigh c = sym (ap left_of c.enum_told-in-FrequencyTooHigh-1.is)
+returns-in-FrequencyTooHigh c = sym (ap left_of c.in-FrequencyTooHigh.is)
 
 pub returns-in-InexactFrequency : goal.returns-in-InexactFrequency
-returns-in-InexactFrequency c = sym (ap left_of c.enum_told-in-InexactFrequency-1.is)
+returns-in-InexactFrequency c = sym (ap left_of c.in-InexactFrequency.is)
 
 pub returns-in-OtherVersion : goal.returns-in-OtherVersion
-returns-in-OtherVersion c = sym (ap left_of c.enum_told-in-OtherVersion-1.is)
+returns-in-OtherVersion c = sym (ap left_of c.in-OtherVersion.is)
 
 pub returns-in-MalformedList : goal.returns-in-MalformedList
-returns-in-MalformedList c = sym (ap left_of c.enum_told-in-MalformedList-1.is)
+returns-in-MalformedList c = sym (ap left_of c.in-MalformedList.is)
 
 pub returns-in-IdsNotRising : goal.returns-in-IdsNotRising
-returns-in-IdsNotRising c = sym (ap left_of c.enum_told-in-IdsNotRising-1.is)
+returns-in-IdsNotRising c = sym (ap left_of c.in-IdsNotRising.is)
 
 pub returns-in-ShortTable : goal.returns-in-ShortTable
-returns-in-ShortTable c = sym (ap left_of c.enum_told-in-ShortTable-1.is)
+returns-in-ShortTable c = sym (ap left_of c.in-ShortTable.is)
