@@ -8,7 +8,7 @@ use native.Mathlib.Omega.{arith}
 use lib.Dec.{leb, eqb}
 use lib.ListN.{length, get_or, take, drop, length-map, get_or-map}
 use borrow.Author.Tests.{ne_eqb, lt-leb, leb-true}
-use Rattle.text.specs.Pick.{pick, both, within}
+use Rattle.text.specs.Pick.{pick, within}
 use Rattle.text.specs.Space.{space1, space2, space3, space80, space_len, space_back, trim_start, trim_end, trimmed, blank}
 use Rattle.text.specs.Walk.{walk, lead}
 use Rattle.text.proofs.BoolLaws.{both_left, both_right, both_no}

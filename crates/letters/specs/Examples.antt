@@ -2,7 +2,7 @@
 use Rattle.std.specs.Prelude.{◌≡◌, refl, true, false, [], ◌∷◌}
 use Rattle.letters.specs.Capitals.{raised, capitals}
 use Rattle.letters.specs.Same.{same, same_raised}
-use Rattle.letters.specs.Order.{order, order_raised}
+use Rattle.letters.specs.Order.{order_raised}
 use Rattle.letters.specs.declared.Order.TheVariants.{Less, Greater}
 
 -- "w1aw" in capitals is "W1AW"

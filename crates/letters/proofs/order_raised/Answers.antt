@@ -1,5 +1,4 @@
-use mathlib.Core.Path.{◌≡◌, refl}
-use Prim.Native.Nat.{◌≤◌, ◌-◌}
+use mathlib.Core.Path.{refl}
 use borrow.Author.Rules.{rules}
 use Rattle.letters.proofs.OrderLaws.{second_ended, at_below, at_above, at_level, first_ended, both_ended}
 use Rattle.letters.proofs.order_raised.Goals as goal
@@ -17,9 +16,9 @@ pub returns-then-y-x : goal.returns-then-y-x
 returns-then-y-x c = search at_above
 
 pub loop-i-preserved : goal.loop-i-preserved
-loop-i-preserved c = let turn = c.before.before.before.before.before.before in (
+loop-i-preserved c = (
   search rules,
-  at_level _ _ _ _ turn.before.before.loop.invariant.1 turn.before.loop-test.true _ _ turn.if1.false
+  at_level _ _ _ _ c.loop-i.invariant.1 c.loop-i-test.true _ _ c.if-b-i.false
       c.raise-x.ensures
       c.raise-y.ensures
       c.if-y-x.false

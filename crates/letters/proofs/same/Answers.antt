@@ -1,5 +1,4 @@
-use mathlib.Core.Path.{◌≡◌, refl}
-use Prim.Native.Nat.{◌≤◌, ◌-◌}
+use mathlib.Core.Path.{refl}
 use borrow.Author.Rules.{rules}
 use Rattle.letters.proofs.SameLaws.{lengths_differ, differs, agrees, ended}
 use Rattle.letters.proofs.same.Goals as goal

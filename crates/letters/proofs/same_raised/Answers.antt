@@ -1,5 +1,4 @@
-use mathlib.Core.Path.{◌≡◌, refl}
-use Prim.Native.Nat.{◌≤◌, ◌-◌}
+use mathlib.Core.Path.{refl}
 use borrow.Author.Rules.{rules}
 use Rattle.letters.proofs.SameLaws.{lengths_differ_raised, differs_raised, agrees_raised, ended_raised}
 use Rattle.letters.proofs.same_raised.Goals as goal
@@ -14,9 +13,9 @@ pub returns-then-raise : goal.returns-then-raise
 returns-then-raise c = search differs_raised
 
 pub loop-i-preserved : goal.loop-i-preserved
-loop-i-preserved c = let turn = c.before.before.before.before.before in (
+loop-i-preserved c = (
   search rules,
-  agrees_raised _ _ _ _ turn.before.loop.invariant.1 _ _ turn.loop-test.true turn.before.before.if1.false
+  agrees_raised _ _ _ _ c.loop-i.invariant.1 _ _ c.loop-i-test.true c.if-a-b.false
       c.raise.ensures
       c.raise-in-loop-i.ensures
       c.if-raise.false,
