@@ -25,29 +25,24 @@ pub float_to_bits-bits : goal.float_to_bits-bits
 float_to_bits-bits c = is_no_nan (x c.before.before) (held c.before.before) (over c.before) (in_range c)
 
 pub overflow_shr-result : goal.overflow_shr-result
-overflow_shr-result c = let t = c.before in
-    down_by (x t.before.before) (held t.before.before) (over t.before) (in_range t)
+overflow_shr-result c = down_by (x c.before.before) (held c.before.before) (over c.before) (in_range t)
 
 pub overflow_add-result : goal.overflow_add-result
-overflow_add-result c = let t = c.before in
-    let b = to_bits binary64 (x t.before.before) in
-    let n = q (x t.before.before) (held t.before.before) (over t.before) (in_range t) in
-    record { fits = go (n / 2 ^ (1074 - b / 2 ^ 52)) (lt_of_le_of_lt (div-le_self n (2 ^ (1074 - b / 2 ^ 52))) (q_lt (x t.before.before) (held t.before.before) (over t.before) (in_range t))) }
+overflow_add-result c = let b = to_bits binary64 (x c.before.before) in
+    let n = q (x c.before.before) (held c.before.before) (over c.before) (in_range t) in
+    record { fits = go (n / 2 ^ (1074 - b / 2 ^ 52)) (lt_of_le_of_lt (div-le_self n (2 ^ (1074 - b / 2 ^ 52))) (q_lt (x c.before.before) (held c.before.before) (over c.before) (in_range t))) }
   where
     go : (r : ℕ) → r < 9007199254740992 → r + 1 < 18446744073709551616
     go r h = omega arith
 
 pub overflow_shl-result : goal.overflow_shl-result
-overflow_shl-result c = let t = c.before in
-    up_by (x t.before.before) (held t.before.before) (over t.before) (in_range t)
+overflow_shl-result c = up_by (x c.before.before) (held c.before.before) (over c.before) (in_range t)
 
 pub returns-then-exponent-lt1075 : goal.returns-then-exponent-lt1075
-returns-then-exponent-lt1075 c = let t = c.before in
-    cut_down (x t.before.before) (held t.before.before) (over t.before) (in_range t) c.if-exponent-lt1075.true
+returns-then-exponent-lt1075 c = cut_down (x c.before.before) (held c.before.before) (over c.before) (in_range t) c.if-exponent-lt1075.true
 
 pub returns-else-exponent-lt1075 : goal.returns-else-exponent-lt1075
-returns-else-exponent-lt1075 c = let t = c.before in
-    cut_up (x t.before.before) (held t.before.before) (over t.before) (in_range t) c.if-exponent-lt1075.false
+returns-else-exponent-lt1075 c = cut_up (x c.before.before) (held c.before.before) (over c.before) (in_range t) c.if-exponent-lt1075.false
 
 pub returns-else-x-2 : goal.returns-else-x-2
 unfolding of_bits
