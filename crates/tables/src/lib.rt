@@ -1,5 +1,7 @@
 // The tables of bands and of modes, with the look-up in them; and the places that stand for texts: a part of the text, or a
 // name of one of the tables.
+#![tactic(auto)]
+
 ghost use Rattle.std.specs.Prelude.{◌≡◌, ◌≤◌, length, get_or, take, eqb};
 ghost use Rattle.letters.specs.Same.{same_raised};
 ghost use Rattle.tables.specs.Table.{Columns, Keyed, cut, first_from, key_of, named};
