@@ -1,5 +1,7 @@
 // The contact list: one lent list of bytes that stands in the place of rigflow's database. It is checked whole before anything else is
 // done with it; what it is known by is its mark, the count and the largest id.
+#![tactic(auto)]
+
 ghost use Rattle.std.specs.Prelude.{◌≡◌, ◌+◌, ◌*◌, ◌≤◌, ◌<◌, length};
 ghost use Rattle.contacts.specs.Contacts.{plain, is_date, is_time, sound_head, sound_texts};
 ghost use Rattle.contacts.specs.Lists.{number_at, text_at, after, end_at, id_at, good_at, entries_from, count_of, listed_as, fresh_against, Few};
