@@ -15,7 +15,7 @@ use tables::Place;
 use tallies::{Tally, Target};
 
 // How many are to be recorded, how many were known already and how many match no contact; `Full` where the lent table has no room.
-#[derive(Drop)]
+#[derive(Clone, Copy)]
 pub enum Carded {
     Counted {
         confirmations: usize,

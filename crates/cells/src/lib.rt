@@ -10,7 +10,7 @@ use model::{Dxcc, Frequency, Qso};
 use tables::{Place, places};
 
 // No field; the bytes of a place; a frequency in hertz; a signed number by its size.
-#[derive(Drop)]
+#[derive(Clone, Copy)]
 pub enum Cell {
     Dropped,
     Words(Place),

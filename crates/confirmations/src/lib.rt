@@ -8,7 +8,7 @@ use tables::{Place, places};
 
 // What one service says of a record: whether it confirms, which it is (1 lotw, 2 eqsl, 4 qrz, 8 a card), and since when.
 #[repr(C)]
-#[derive(Drop)]
+#[derive(Clone, Copy)]
 pub struct Answer {
     pub present: bool,
     pub service: u32,
@@ -24,14 +24,14 @@ const QRZ: u32 = 4;
 const CARD: u32 = 8;
 
 // The value that tells whether a service confirms, and the one with its date.
-#[derive(Drop)]
+#[derive(Clone, Copy)]
 struct Said {
     value: Place,
     date: Place,
 }
 
 // What the rows passed say.
-#[derive(Drop)]
+#[derive(Clone, Copy)]
 struct Heard {
     lotw: Said,
     eqsl: Said,

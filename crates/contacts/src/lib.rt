@@ -10,13 +10,13 @@ use decimal::all_digits;
 use refusals::{LONGEST, Refusal};
 
 // What a list is known by: how many contacts, and the largest id.
-#[derive(Drop)]
+#[derive(Clone, Copy)]
 pub enum Listed {
     Marked { contacts: usize, largest: u64 },
     Refused(Refusal),
 }
 
-#[derive(Drop)]
+#[derive(Clone, Copy)]
 pub enum Freshness {
     Fresh,
     Stale,

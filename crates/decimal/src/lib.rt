@@ -4,14 +4,14 @@
 ghost use Rattle.std.specs.Prelude.{◌≡◌};
 ghost use Rattle.decimal.specs.Decimal.{all_digits, digits_of, unsigned_of, above_zero, below_zero, signed_of};
 
-#[derive(Drop)]
+#[derive(Clone, Copy)]
 pub enum Unsigned {
     Is(u64),
     Not,
 }
 
 // A number by its size, and whether it is below zero; zero is not.
-#[derive(Drop)]
+#[derive(Clone, Copy)]
 pub enum Signed {
     Of { negative: bool, size: u64 },
     Bad,

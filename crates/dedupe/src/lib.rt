@@ -14,7 +14,7 @@ use times::Moment;
 
 // What names a contact, beside its time.
 #[repr(C)]
-#[derive(Drop)]
+#[derive(Clone, Copy)]
 pub struct Key {
     pub call: Place,
     pub mode: Place,
@@ -22,7 +22,7 @@ pub struct Key {
 }
 
 // How two texts are looked at: the first one trimmed, the second one trimmed, both in capitals.
-#[derive(Drop)]
+#[derive(Clone, Copy)]
 struct Test {
     first: bool,
     second: bool,

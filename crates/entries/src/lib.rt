@@ -61,7 +61,7 @@ pub fn key_in(row: [u32; 28]) -> Key
 }
 
 // The code of a record's call, mode and band, and why it is unusable, or 0.
-#[derive(Drop)]
+#[derive(Clone, Copy)]
 struct Judged {
     code: u32,
     reason: u32,

@@ -38,7 +38,7 @@ fn raised_at(s: &[u8], at: u32) -> u8
     letters::raise(text::byte(s, at as usize))
 }
 
-#[derive(Drop)]
+#[derive(Clone, Copy)]
 struct Spot {
     pub at: usize,
     pub same: bool,
@@ -90,7 +90,7 @@ fn shift_in(rows: &mut [[u32; 4]], used: usize, at: usize, row: [u32; 4])
     rows[used] = carry;
 }
 
-#[derive(Drop)]
+#[derive(Clone, Copy)]
 pub enum Kept {
     Used(usize),
     Full,

@@ -9,7 +9,7 @@ use times::Moment;
 
 // A contact in a lent index. There is no gap between the numbers, so that each byte of a record is determined.
 #[repr(C)]
-#[derive(Drop)]
+#[derive(Clone, Copy)]
 pub struct Contact {
     pub id: u64,
     pub seconds: u64,

@@ -7,7 +7,7 @@ ghost use Rattle.letters.specs.Same.{same, same_raised};
 ghost use Rattle.letters.specs.Order.{order_raised};
 
 // As Rust's `Ordering`.
-#[derive(Drop)]
+#[derive(Clone, Copy)]
 pub enum Order {
     Less,
     Equal,

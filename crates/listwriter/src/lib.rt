@@ -9,7 +9,7 @@ use contacts::{ENTRIES, VERSION};
 use refusals::{LONGEST, Refusal, Verdict};
 
 // How many bytes the list now has.
-#[derive(Drop)]
+#[derive(Clone, Copy)]
 pub enum Appended {
     Bytes(usize),
     Refused(Refusal),

@@ -13,7 +13,7 @@ ghost use Rattle.merge.specs.Steps.{fields_between, merged_text, Cuts};
 use cells::Cell;
 
 // Rows up to `below` have names below a column's, rows from `above` on names above it; a row of its very name lies between.
-#[derive(Drop)]
+#[derive(Clone, Copy)]
 pub struct Cut {
     below: usize,
     above: usize,

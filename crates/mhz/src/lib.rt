@@ -9,7 +9,7 @@ mod number;
 mod window;
 
 // Not a number, or below zero; whole hertz; a number outside the exact window.
-#[derive(Drop)]
+#[derive(Clone, Copy)]
 pub enum Hz {
     Absent,
     Is(u64),
@@ -17,7 +17,7 @@ pub enum Hz {
 }
 
 // The place after what was written; a frequency that is too high; an output that is too short.
-#[derive(Drop)]
+#[derive(Clone, Copy)]
 pub enum Wrote {
     End(usize),
     TooHigh,

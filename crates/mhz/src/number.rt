@@ -9,14 +9,14 @@ ghost use Rattle.mhz.specs.Steps.{held, grown, power_held, exponent_held, word_h
 use super::{Hz, window};
 
 // Digits read up to `at`.
-#[derive(Drop)]
+#[derive(Clone, Copy)]
 pub struct Run {
     at: usize,
     held: u64,
 }
 
 // A decimal up to its exponent, which stands at `at`.
-#[derive(Drop)]
+#[derive(Clone, Copy)]
 pub struct Mantissa {
     at: usize,
     held: u64,
@@ -24,7 +24,7 @@ pub struct Mantissa {
     count: usize,
 }
 
-#[derive(Drop)]
+#[derive(Clone, Copy)]
 pub enum Power {
     Malformed,
     Ten(bool, u64),

@@ -13,7 +13,7 @@ use tables::{Place, places};
 // A frequency in hertz, if one is given. Flags are numbers, 0 or 1, here and below: who calls fills them, and in the place of a `bool` could
 // stand a byte that is neither.
 #[repr(C)]
-#[derive(Drop)]
+#[derive(Clone, Copy)]
 pub struct Frequency {
     pub given: u8,
     pub hz: u64,
@@ -21,7 +21,7 @@ pub struct Frequency {
 
 // The number of the DXCC entity by its size, if one is given.
 #[repr(C)]
-#[derive(Drop)]
+#[derive(Clone, Copy)]
 pub struct Dxcc {
     pub given: u8,
     pub negative: u8,
@@ -30,7 +30,7 @@ pub struct Dxcc {
 
 // The columns stand in the order of `columns`; all other fields of a record stay rows.
 #[repr(C)]
-#[derive(Drop)]
+#[derive(Clone, Copy)]
 pub struct Qso {
     pub columns: [Place; 13],
     pub freq: Frequency,
@@ -39,7 +39,7 @@ pub struct Qso {
 }
 
 // A QSO, and whether the call that gives it refused.
-#[derive(Drop)]
+#[derive(Clone, Copy)]
 pub struct Answer {
     pub qso: Qso,
     pub verdict: Verdict,

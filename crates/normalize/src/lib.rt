@@ -4,13 +4,13 @@ use tables::{ModeClass, Place};
 pub mod classes;
 pub mod modes;
 
-#[derive(Drop)]
+#[derive(Clone, Copy)]
 pub struct ModePair {
     pub mode: Place,
     pub submode: Place,
 }
 
-#[derive(Drop)]
+#[derive(Clone, Copy)]
 pub enum Classed {
     In(ModeClass),
     Unclassed,

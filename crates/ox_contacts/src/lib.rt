@@ -15,7 +15,7 @@ use listwriter::Appended;
 
 // A list's mark: how many contacts, and the largest id.
 #[repr(C)]
-#[derive(Drop)]
+#[derive(Clone, Copy)]
 pub struct MarkAnswer {
     pub refusal: u32,
     pub contacts: usize,
@@ -23,7 +23,7 @@ pub struct MarkAnswer {
 }
 
 #[repr(C)]
-#[derive(Drop)]
+#[derive(Clone, Copy)]
 pub struct FreshAnswer {
     pub refusal: u32,
     pub fresh: bool,
@@ -108,7 +108,7 @@ pub extern "C" fn ox_contacts_search(
 
 // How many bytes the list now has.
 #[repr(C)]
-#[derive(Drop)]
+#[derive(Clone, Copy)]
 pub struct AppendAnswer {
     pub refusal: u32,
     pub length: usize,

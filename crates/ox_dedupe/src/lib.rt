@@ -13,7 +13,7 @@ use times::Moment;
 
 // With a moment, its seconds since the first day of year 0. With 2 `place` is the first bad byte's, the time's counted after the date's.
 #[repr(C)]
-#[derive(Drop)]
+#[derive(Clone, Copy)]
 pub struct Timed {
     pub refusal: u32,
     pub place: usize,

@@ -13,7 +13,7 @@ use summary::{Counts, Line};
 // Refusals as in the answer of a reading, with their places in the text, never in the list. Of a plan: the records and the rows they
 // take, the confirmations to record, the list's mark, which the plan keeps, and what it counts.
 #[repr(C)]
-#[derive(Drop)]
+#[derive(Clone, Copy)]
 pub struct PlanAnswer {
     pub refusal: u32,
     pub place: usize,
@@ -31,7 +31,7 @@ pub struct PlanAnswer {
 
 // How many bytes the line has.
 #[repr(C)]
-#[derive(Drop)]
+#[derive(Clone, Copy)]
 pub struct LineAnswer {
     pub refusal: u32,
     pub length: usize,

@@ -9,7 +9,7 @@ use refusals::{Refusal, Verdict, check_text, number, place};
 
 // Not `present` where the text is no number, or one below zero.
 #[repr(C)]
-#[derive(Drop)]
+#[derive(Clone, Copy)]
 pub struct Frequency {
     pub refusal: u32,
     pub place: usize,

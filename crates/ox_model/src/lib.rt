@@ -9,7 +9,7 @@ use tables::Found;
 // The QSO, and the number of the refusal, or 0. Refused with 15 a mapping gives the QSO with both frequencies absent, with another number
 // an empty QSO; normalising gives a refused QSO back unchanged.
 #[repr(C)]
-#[derive(Drop)]
+#[derive(Clone, Copy)]
 pub struct QsoAnswer {
     pub refusal: u32,
     pub qso: Qso,
@@ -17,7 +17,7 @@ pub struct QsoAnswer {
 
 // The number of the column that a field's name names; 13 for an extra field.
 #[repr(C)]
-#[derive(Drop)]
+#[derive(Clone, Copy)]
 pub struct ColumnAnswer {
     pub refusal: u32,
     pub place: usize,

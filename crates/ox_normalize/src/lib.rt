@@ -11,7 +11,7 @@ use refusals::{Refusal, Verdict, check_text, check_texts};
 use tables::{Name, Place, Span, places};
 
 #[repr(C)]
-#[derive(Drop)]
+#[derive(Clone, Copy)]
 pub struct Placed {
     pub refusal: u32,
     pub place: usize,
@@ -20,7 +20,7 @@ pub struct Placed {
 
 // `split` where no submode was given, or a blank one: the submode of the answer is then in the text of the mode.
 #[repr(C)]
-#[derive(Drop)]
+#[derive(Clone, Copy)]
 pub struct Normalized {
     pub refusal: u32,
     pub place: usize,
@@ -31,7 +31,7 @@ pub struct Normalized {
 
 // 0 to 3 phone, cw, digital, image.
 #[repr(C)]
-#[derive(Drop)]
+#[derive(Clone, Copy)]
 pub struct Classified {
     pub refusal: u32,
     pub place: usize,

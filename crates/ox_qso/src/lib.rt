@@ -9,7 +9,7 @@ use refusals::{Written, number};
 
 // How many bytes were written, or the number of the refusal and none; and the QSO, unchanged.
 #[repr(C)]
-#[derive(Drop)]
+#[derive(Clone, Copy)]
 pub struct QsoWritten {
     pub refusal: u32,
     pub length: usize,

@@ -10,7 +10,7 @@ use refusals::Refusal;
 // text's length; a place may be 0. With 4 to 7 `name` and `name_length` are the place and the length of the tag's name, with 6
 // `wanted` its length's number and `left` the bytes that were there. Of a text that is read, its records and the rows they take.
 #[repr(C)]
-#[derive(Drop)]
+#[derive(Clone, Copy)]
 pub struct ReadAnswer {
     pub refusal: u32,
     pub place: usize,

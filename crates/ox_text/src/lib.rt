@@ -11,14 +11,14 @@ use refusals::{Refusal, Verdict, check_text, check_texts, number, place};
 
 // `place` is the first bad byte's after 2, and the length of an accepted text.
 #[repr(C)]
-#[derive(Drop)]
+#[derive(Clone, Copy)]
 pub struct Checked {
     pub refusal: u32,
     pub place: usize,
 }
 
 #[repr(C)]
-#[derive(Drop)]
+#[derive(Clone, Copy)]
 pub struct Trimmed {
     pub refusal: u32,
     pub place: usize,
@@ -27,7 +27,7 @@ pub struct Trimmed {
 }
 
 #[repr(C)]
-#[derive(Drop)]
+#[derive(Clone, Copy)]
 pub struct Told {
     pub refusal: u32,
     pub place: usize,
@@ -36,7 +36,7 @@ pub struct Told {
 
 // 0 less, 1 equal, 2 greater.
 #[repr(C)]
-#[derive(Drop)]
+#[derive(Clone, Copy)]
 pub struct Ordered {
     pub refusal: u32,
     pub place: usize,
@@ -44,7 +44,7 @@ pub struct Ordered {
 }
 
 #[repr(C)]
-#[derive(Drop)]
+#[derive(Clone, Copy)]
 pub struct Found {
     pub refusal: u32,
     pub place: usize,
@@ -52,7 +52,7 @@ pub struct Found {
 }
 
 #[repr(C)]
-#[derive(Drop)]
+#[derive(Clone, Copy)]
 pub struct Numbered {
     pub refusal: u32,
     pub place: usize,
@@ -62,7 +62,7 @@ pub struct Numbered {
 }
 
 #[repr(C)]
-#[derive(Drop)]
+#[derive(Clone, Copy)]
 pub struct Written {
     pub refusal: u32,
     pub length: usize,

@@ -14,7 +14,7 @@ use refusals::Refusal;
 
 // A plan by its numbers: the records read and the rows that they take, the confirmations to record, how many were known already and how
 // many match no contact; and the list's mark, which the plan keeps.
-#[derive(Drop)]
+#[derive(Clone, Copy)]
 pub enum Planned {
     Made {
         records: usize,

@@ -17,7 +17,7 @@ use model::{Frequency, Qso};
 use refusals::{Refusal, Verdict, Written};
 
 // What was written, or why nothing was; and the QSO, unchanged.
-#[derive(Drop)]
+#[derive(Clone, Copy)]
 pub struct WrittenQso {
     pub written: Written,
     pub qso: Qso,

@@ -15,21 +15,21 @@ const NAMES: usize = 256;
 
 const RECORDS: usize = 65_535;
 
-#[derive(Drop)]
+#[derive(Clone, Copy)]
 pub enum Reading {
     Read { records: usize, rows: usize },
     Refused(Refusal),
 }
 
 // How many records are closed, and the rows they have taken.
-#[derive(Drop)]
+#[derive(Clone, Copy)]
 enum Closed {
     At { records: usize, rows: usize },
     Refused(Refusal),
 }
 
 // After a tag: where the text goes on, with the fields in hand, or what comes of the reading.
-#[derive(Drop)]
+#[derive(Clone, Copy)]
 enum Turn {
     On {
         at: usize,

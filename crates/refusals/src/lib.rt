@@ -8,7 +8,7 @@ ghost use Rattle.refusals.specs.Written.{fitted};
 // The longest text, list or output, in bytes.
 pub const LONGEST: usize = 16_777_216;
 
-#[derive(Drop)]
+#[derive(Clone, Copy)]
 pub enum Refusal {
     TooLong,
     // with the place of the first bad byte
@@ -58,14 +58,14 @@ pub enum Refusal {
     ShortTable,
 }
 
-#[derive(Drop)]
+#[derive(Clone, Copy)]
 pub enum Verdict {
     Accepted,
     Refused(Refusal),
 }
 
 // What a call that writes says: how many bytes it wrote, or would write, or why it does not.
-#[derive(Drop)]
+#[derive(Clone, Copy)]
 pub enum Written {
     Bytes(usize),
     Unwritten(Refusal),

@@ -2,7 +2,7 @@
 // A line is OPERATION ARG.. = ANSWER; what the library answers is written out and held against the line's own ANSWER.
 ghost use Rattle.std.specs.Prelude.{◌≤◌, length};
 
-#[derive(Drop)]
+#[derive(Clone, Copy)]
 struct Tally {
     lines: usize,
     agree: usize,

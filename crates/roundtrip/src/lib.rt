@@ -6,7 +6,7 @@ ghost use Rattle.roundtrip.specs.Trip.{trip_of, table_of, SaysSame};
 use reader::Reading;
 use refusals::{Refusal, Written};
 
-#[derive(Drop)]
+#[derive(Clone, Copy)]
 pub enum Trip {
     Back(Reading),
     Refused(Refusal),

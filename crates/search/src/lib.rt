@@ -13,7 +13,7 @@ use times::Moment;
 use wanted::Wanted;
 
 // A contact by its number in the list, from 1, and the place of its entry; both 0 for none.
-#[derive(Drop)]
+#[derive(Clone, Copy)]
 pub struct Hit {
     pub number: usize,
     pub place: usize,

@@ -7,7 +7,7 @@ use refusals::Refusal;
 
 // What a plan counts.
 #[repr(C)]
-#[derive(Drop)]
+#[derive(Clone, Copy)]
 pub struct Counts {
     pub total: u64,
     pub importable: u64,
@@ -18,7 +18,7 @@ pub struct Counts {
     pub unusable: u64,
 }
 
-#[derive(Drop)]
+#[derive(Clone, Copy)]
 pub enum Line {
     Bytes(usize),
     Refused(Refusal),

@@ -14,7 +14,7 @@ pub mod places;
 // Where the bytes of a text result stand. Kind 0: nowhere, the result is absent; 1: `len` bytes of the text from `start`, as
 // they stand; 2: those bytes in capitals; 3: entry `start` of the bands; 4: entry `start` of the modes.
 #[repr(C)]
-#[derive(Drop)]
+#[derive(Clone, Copy)]
 pub struct Place {
     pub kind: u32,
     pub start: u32,
@@ -23,7 +23,7 @@ pub struct Place {
 
 // The name of an entry, with 0 after it.
 #[repr(C)]
-#[derive(Drop)]
+#[derive(Clone, Copy)]
 pub struct Name {
     pub bytes: [u8; 12],
     pub len: usize,
@@ -31,14 +31,14 @@ pub struct Name {
 
 // Entries of a table, one after the other.
 #[repr(C)]
-#[derive(Drop)]
+#[derive(Clone, Copy)]
 pub struct Span {
     pub first: u32,
     pub count: u32,
 }
 
 // A coarse family of modes.
-#[derive(Drop)]
+#[derive(Clone, Copy)]
 pub enum ModeClass {
     Phone,
     Cw,
@@ -47,7 +47,7 @@ pub enum ModeClass {
 }
 
 // The number of an entry.
-#[derive(Drop)]
+#[derive(Clone, Copy)]
 pub enum Found {
     At(u32),
     Nothing,

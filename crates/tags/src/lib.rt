@@ -8,7 +8,7 @@ use decimal::Unsigned;
 use refusals::Refusal;
 
 // What a name makes of its tag.
-#[derive(Drop)]
+#[derive(Clone, Copy)]
 pub enum Kind {
     EndOfHeader,
     EndOfRecord,
@@ -18,7 +18,7 @@ pub enum Kind {
 
 // EOH and EOR with the place after the tag; a field with its name and value, after which the text goes on. `at` is the place of the
 // tag's `<`.
-#[derive(Drop)]
+#[derive(Clone, Copy)]
 pub enum Tag {
     End,
     Eoh(usize),

@@ -6,7 +6,7 @@ ghost use Rattle.tallies.specs.Tallies.{target_in, target_of, is_new, is_old, is
 use confirmations::Answer;
 
 // How many confirmations are to be recorded, were known already and match no contact; and the services that count at this record.
-#[derive(Drop)]
+#[derive(Clone, Copy)]
 pub struct Tally {
     pub used: usize,
     pub already: usize,
@@ -18,7 +18,7 @@ pub struct Tally {
 }
 
 // What a record confirms: a contact of the log, with its services and the halves of its id, or none.
-#[derive(Drop)]
+#[derive(Clone, Copy)]
 pub struct Target {
     pub matched: bool,
     pub services: u32,

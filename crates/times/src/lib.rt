@@ -11,7 +11,7 @@ use decimal::Unsigned;
 pub mod window;
 
 // Seconds since the first day of year 0, or no moment.
-#[derive(Drop)]
+#[derive(Clone, Copy)]
 pub enum Moment {
     At(u64),
     Never,

@@ -9,7 +9,7 @@ use dedupe::Key;
 use tables::{Place, places};
 use times::Moment;
 
-#[derive(Drop)]
+#[derive(Clone, Copy)]
 pub struct Wanted {
     pub key: Key,
     pub moment: Moment,
