@@ -19,7 +19,6 @@ use Rattle.tags.specs.Tags.{lt, gt, colon_at, name_at, name_length, name_place, 
 use Rattle.tags.specs.Ahead.{Ahead}
 use Rattle.tags.specs.declared.Kind.{Kind}
 use Rattle.tags.specs.declared.Kind.TheVariants.{EndOfHeader, EndOfRecord, EndOfFile, FieldName}
-use Rattle.tags.specs.declared.Tag.TheVariants.{Field}
 
 pick_elim : {A : Type 0} (P : A → Type 0) (t : Bool) (x y : A) → (t ≡ true → P x) → (t ≡ false → P y) → P (pick t x y)
 pick_elim P true x y f g = f refl

@@ -1,5 +1,7 @@
 // The tags of an ADIF text: what stands before `<` is comment, the inside runs to the next `>`, and its first two `:` split it into
 // name, length and type. Nothing is copied: a tag tells places in the text.
+#![tactic(auto)]
+
 ghost use Rattle.std.specs.Prelude.{◌≡◌, ◌+◌, ◌-◌, ◌≤◌, ◌<◌, length, take, drop, eqb};
 ghost use Rattle.text.specs.Pick.{pick};
 ghost use Rattle.tags.specs.Tags.{kind_of, length_after, value_of, tag_of, tag_at};
