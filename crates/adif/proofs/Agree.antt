@@ -3,7 +3,7 @@ use mathlib.Core.Path.{◌≡◌, refl, sym, ap, ◌∙◌}
 use mathlib.Core.List.{List, [], ◌∷◌, ◌++◌, map, append-nil}
 use Prim.Native.Nat.{ℕ, ◌+◌, ◌≤◌, ◌<◌}
 use lib.ListN.{length, drop}
-use Rattle.text.specs.Run.{go, follow, run}
+use Rattle.text.specs.Run.{follow}
 use Rattle.text.specs.Space.{trimmed}
 use Rattle.text.specs.Utf8.{Utf8}
 use Rattle.text.proofs.RunLaws.{Onward, run_step}
@@ -11,13 +11,13 @@ use Rattle.letters.specs.Capitals.{capitals}
 use Rattle.decimal.specs.Decimal.{unsigned_of}
 use Rattle.decimal.specs.declared.Unsigned.TheVariants.{Is}
 use Rattle.refusals.specs.declared.Refusal.{Refusal}
-use Rattle.tags.specs.Tags.{gt, colon, kind_of, by_kind, tag_at, name_place, name_length}
+use Rattle.tags.specs.Tags.{colon, kind_of, by_kind, tag_at, name_place, name_length}
 use Rattle.tags.specs.Ahead.{Ahead}
 use Rattle.tags.specs.declared.Kind.TheVariants.{EndOfHeader, EndOfRecord, EndOfFile, FieldName}
 use Rattle.tags.specs.declared.Tag.{Tag}
 use Rattle.tags.specs.declared.Tag.TheVariants.{End, Eoh, Eor, Eof, Field, Refused}
 use Rattle.tags.proofs.AheadLaws.{ahead}
-use Rattle.adif.specs.Records.{Item, eoh, eor, field, Outcome, records, Turn, on, no, then, act, finish, Ending, meaning}
+use Rattle.adif.specs.Records.{Item, eoh, eor, field, Outcome, records, Turn, on, no, then, act, Ending, meaning}
 use Rattle.adif.specs.Grammar
 use Rattle.adif.specs.Grammar.{Why, plain, Items, all, Tagged, Sized, Says, over, eof_tag, eoh_tag, eor_tag, field_tag, unterminated, missing, bad, truncated, torn}
 use Rattle.adif.specs.Reading.{Row, RowsRead, part, row_name, row_value, rows, State, onto, read_by, read_run, read_tags}

@@ -1,5 +1,5 @@
 -- The reading accepts exactly the texts that the grammar lets through within the limits, with the same records. Assumes nothing.
-use mathlib.Core.Path.{◌≡◌, refl, sym, ap, ◌∙◌}
+use mathlib.Core.Path.{◌≡◌, refl, sym, ◌∙◌}
 use mathlib.Core.Bool.{Bool, true, false}
 use mathlib.Core.List.{List, [], ◌∷◌, map}
 use Prim.Native.Nat.{ℕ, ◌≤◌}
@@ -9,7 +9,6 @@ use lib.Dec.{ltb}
 use borrow.Author.Tests.{le-ltb, ltb-false}
 use Rattle.text.specs.Pick.{pick}
 use Rattle.text.specs.Utf8.{valid_up_to, char_len, Utf8}
-use Rattle.text.specs.Walk.{lead}
 use Rattle.text.proofs.Walks.{lead_le}
 use Rattle.text.proofs.Utf8Laws.{char_within}
 use Rattle.refusals.specs.Refusals.{of_text}
@@ -17,7 +16,7 @@ use Rattle.refusals.specs.declared.Refusal.{Refusal}
 use Rattle.refusals.specs.declared.Refusal.TheVariants.{TooLong, NotUtf8}
 use Rattle.refusals.specs.declared.Verdict.{Verdict}
 use Rattle.refusals.specs.declared.Verdict.TheVariants.{Accepted, Refused}
-use Rattle.adif.specs.Records.{Item, Outcome, records, refused, Turn, on, no, then, total, act, Ending, whole, fault, meaning, plainly}
+use Rattle.adif.specs.Records.{Outcome, records, refused, Turn, on, no, then, total, act, Ending, whole, fault, meaning, plainly}
 use Rattle.adif.specs.Grammar.{Field, Why, plain, Items, Says}
 use Rattle.adif.specs.Limits.{Names256, AllAscending}
 use Rattle.adif.specs.Reading.{Row, RowsRead, accepted, read_tags, read_text}

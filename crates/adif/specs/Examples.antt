@@ -11,9 +11,9 @@ use Rattle.decimal.specs.Decimal.{digits_after, digits_of, leads, unsigned_of}
 use Rattle.refusals.specs.Refusals.{of_text}
 use Rattle.refusals.specs.declared.Refusal.TheVariants.{FewRows}
 use Rattle.tags.specs.Tags.{kind_of, colon_at, name_at, name_length, name_place, name_of, length_after, value_of, by_kind, tag_of, closed_at, open_at, tag_at}
-use Rattle.adif.specs.Records.{Item, eoh, eor, field, records, refused, plainly}
+use Rattle.adif.specs.Records.{eoh, eor, field, records, refused, plainly}
 use Rattle.adif.specs.Grammar.{Field, Items}
-use Rattle.adif.specs.Reading.{Row, row_name, read_tags, read_text}
+use Rattle.adif.specs.Reading.{row_name, read_tags, read_text}
 
 -- a field named n with the value v
 abbrev one : ℕ → ℕ → Field
