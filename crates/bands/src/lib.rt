@@ -1,5 +1,7 @@
 // The bands by frequency and by name. Bounds are those of ADIF's BAND, both ends inside, so that a dial on a band's edge is in
 // the band; 60m is the whole 5 MHz allocation, since only some countries have channels there.
+#![tactic(auto)]
+
 ghost use Rattle.std.specs.Prelude.{◌≡◌, true, ◌≤◌, length};
 ghost use Rattle.tables.specs.Table.{first_from, is_found};
 ghost use Rattle.tables.specs.Bands.{apart, bounded, holds, band_for, band_named, every_band};
