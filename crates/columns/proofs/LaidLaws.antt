@@ -6,10 +6,10 @@ use Prim.Native.Nat.{ℕ, zero, suc, ◌+◌, ◌-◌, ◌≤◌, ◌<◌}
 use native.Mathlib.Nat.{not-suc-le-zero, le_of_suc-le-suc}
 use native.Mathlib.Omega.{arith}
 use lib.ListN.{length, get_or, set}
-use Rattle.text.specs.Pick.{pick, both}
+use Rattle.text.specs.Pick.{pick}
 use Rattle.text.proofs.BoolLaws.{both_left, both_right}
 use Rattle.letters.specs.Capitals.{raised, capitals}
-use Rattle.letters.specs.Same.{same, same_raised}
+use Rattle.letters.specs.Same.{same_raised}
 use Rattle.letters.proofs.SameLaws.{same_refl, same_raised_true}
 use Rattle.tables.specs.Table.{first_from, named}
 use Rattle.tables.specs.declared.Found.TheVariants.{At, Nothing}

@@ -1,4 +1,6 @@
 // The names of the thirteen columns of a contact. Every other field of a record is extra.
+#![tactic(auto)]
+
 ghost use Rattle.std.specs.Prelude.{◌≡◌, length};
 ghost use Rattle.tables.specs.Table.{is_found};
 ghost use Rattle.columns.specs.Columns.{column_named, Told};
