@@ -1,4 +1,6 @@
 // Modes and submodes brought to ADIF's own, and the classes of modes.
+#![tactic(auto)]
+
 use tables::{ModeClass, Place};
 
 pub mod classes;
