@@ -1,5 +1,7 @@
 // The record in hand: at most 256 rows in strict byte order of their raised names. A row is four numbers: the name's place and length
 // in the text, and the value's. When the record is closed its rows move to the lent table, of five numbers a row.
+#![tactic(auto)]
+
 ghost use Rattle.std.specs.Prelude.{◌≡◌, ◌+◌, ◌*◌, ◌<◌, ◌≤◌, length, get_or, take};
 ghost use Rattle.std.proofs.lemmas.List.Edits.{sets};
 ghost use Rattle.letters.specs.Capitals.{raised, capitals};
