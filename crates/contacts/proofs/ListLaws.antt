@@ -1,21 +1,20 @@
 -- The entries of a list one after the other, and the list. Assumes nothing.
 use mathlib.Core.Path.{◌≡◌, refl, sym, ◌∙◌}
-use mathlib.Core.Bool.{Bool, true, false, not}
+use mathlib.Core.Bool.{Bool, true, false}
 use mathlib.Core.List.{List}
 use Prim.Native.Nat.{ℕ, zero, suc, ◌+◌, ◌-◌, ◌≤◌, ◌<◌}
 use native.Mathlib.Nat.{sub-zero}
 use native.Mathlib.Omega.{arith}
 use lib.ListN.{length, get_or}
 use lib.Dec.{eqb, leb, ltb}
-use borrow.Author.Tests.{not-true, not-false, leb-true, ltb-false, lt-ltb, le-ltb, eqb-true, eq-eqb, ne_eqb}
-use Rattle.text.specs.Pick.{pick, both}
+use borrow.Author.Tests.{leb-true, ltb-false, lt-ltb, le-ltb, eqb-true, eq-eqb, ne_eqb}
+use Rattle.text.specs.Pick.{pick}
 use Rattle.text.proofs.BoolLaws.{cases, both_left}
 use Rattle.refusals.specs.declared.Refusal.{Refusal}
 use Rattle.refusals.specs.declared.Refusal.TheVariants.{TooLong, OtherVersion, MalformedList, IdsNotRising}
 use Rattle.contacts.specs.Lists.{end_at, id_at, fits, good_at, entries_from, count_of, listed_as, fresh_by, fresh_against}
 use Rattle.contacts.specs.declared.Listed.{Listed}
 use Rattle.contacts.specs.declared.Listed.TheVariants.{Marked, Refused}
-use Rattle.contacts.specs.declared.Freshness.{Freshness}
 use Rattle.contacts.specs.declared.Freshness.TheVariants
 
 -- a good entry ends within the list

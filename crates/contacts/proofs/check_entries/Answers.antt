@@ -1,4 +1,3 @@
-use Prim.Native.Nat.{◌≤◌, ◌-◌}
 use borrow.Author.Rules.{rules}
 use Rattle.contacts.proofs.ListLaws.{entries_start, entries_bad, entries_low, entries_inside, entries_on, entries_short, entries_end}
 use Rattle.contacts.proofs.check_entries.Goals as goal
