@@ -1,4 +1,6 @@
 // A field as ADIF text: `<NAME:LEN>value` and a space, the name in capitals and LEN in bytes.
+#![tactic(auto)]
+
 ghost use Rattle.std.specs.Prelude.{◌≡◌, ◌+◌, ◌≤◌, length};
 ghost use Rattle.letters.specs.Capitals.{capitals};
 ghost use Rattle.output.specs.Put.{Put, Room};
