@@ -1,4 +1,6 @@
 // The one line that sums a plan up. After `ImportPlan::summary` of `import.rs`. It is measured first, and then written or refused.
+#![tactic(auto)]
+
 ghost use Rattle.std.specs.Prelude.{◌≡◌, ◌≤◌, length};
 ghost use Rattle.output.specs.Put.{Put, Room};
 ghost use Rattle.summary.specs.Summary.{counted, further, part, found, confirmed, left_out, summary_text, answer_to, output_after};
