@@ -113,4 +113,4 @@ returns-in-21 c = is 21 c.args.k (omega arith)
 
 pub returns-in_default : goal.returns-in_default
 unfolding of_bits
-returns-in_default c = is 22 c.args.k (last c.args.k (past 22 c.args.k c.in-0.rest) c.requires)
+returns-in_default c = is 22 c.args.k (last c.args.k (past 22 c.args.k c.in_default.in_default-own.rest) c.requires)
