@@ -1,5 +1,7 @@
 // Whether two contacts are one: the same call, mode and band, and within a window. Each text of a key is a place: a part of the
 // contact's own text, as it stands or in capitals, or an entry of a table.
+#![tactic(auto)]
+
 ghost use Rattle.std.specs.Prelude.{◌≡◌, ◌≤◌, take};
 ghost use Rattle.text.specs.Pick.{pick};
 ghost use Rattle.text.specs.Space.{trimmed};

@@ -1,0 +1,21 @@
+use Rattle.dedupe.proofs.ViewLaws.{file_call, file_mode, file_band}
+use Rattle.dedupe.proofs.in_file.Goals as goal
+
+pub returns-then-alike-2 : goal.returns-then-alike-2
+returns-then-alike-2 c = file_band _ _ _ _ _ _ c.looked_at.ensures c.alike.ensures _ _ c.if-alike.true
+    c.looked_at-then-alike.ensures
+    c.alike-then-alike.ensures
+    _
+    _
+    c.if-alike-2.true
+    c.looked_at-then-alike-2.ensures
+    c.alike-then-alike-2.ensures
+
+pub returns-then-alike : goal.returns-then-alike
+returns-then-alike c = file_mode _ _ _ _ _ _ c.looked_at.ensures c.alike.ensures _ _ c.if-alike.true
+    c.looked_at-then-alike.ensures
+    c.alike-then-alike.ensures
+    c.if-alike-2.false
+
+pub returns : goal.returns
+returns c = file_call _ _ _ _ _ _ c.looked_at.ensures c.alike.ensures c.if-alike.false

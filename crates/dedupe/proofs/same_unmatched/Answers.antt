@@ -1,0 +1,21 @@
+use Rattle.dedupe.proofs.ViewLaws.{unmatched_call, unmatched_band, unmatched_mode}
+use Rattle.dedupe.proofs.same_unmatched.Goals as goal
+
+pub returns-then-alike-2 : goal.returns-then-alike-2
+returns-then-alike-2 c = unmatched_mode _ _ _ _ _ _ c.looked_at.ensures c.alike.ensures _ _ c.if-alike.true
+    c.looked_at-then-alike.ensures
+    c.alike-then-alike.ensures
+    _
+    _
+    c.if-alike-2.true
+    c.looked_at-then-alike-2.ensures
+    c.alike-then-alike-2.ensures
+
+pub returns-then-alike : goal.returns-then-alike
+returns-then-alike c = unmatched_band _ _ _ _ _ _ c.looked_at.ensures c.alike.ensures _ _ c.if-alike.true
+    c.looked_at-then-alike.ensures
+    c.alike-then-alike.ensures
+    c.if-alike-2.false
+
+pub returns : goal.returns
+returns c = unmatched_call _ _ _ _ _ _ c.looked_at.ensures c.alike.ensures c.if-alike.false
