@@ -1,5 +1,7 @@
 // The record that the contact index keeps of a contact: where its texts stand in the list, its code and its moment. It is made and tested
 // as fourteen plain numbers, and kept as a `Contact`.
+#![tactic(auto)]
+
 ghost use Rattle.std.specs.Prelude.{◌≡◌, ◌≤◌, ◌<◌, get_or};
 ghost use Rattle.letters.specs.Capitals.{capitals};
 ghost use Rattle.index.specs.Rows.{mix, mixed, code_of, low, high, has_moment, seconds_in, row_of, joined, row_by, row_at};
