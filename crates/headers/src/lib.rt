@@ -1,5 +1,7 @@
 // What stands in front of records: the journal's header and the header of an export. Each is measured first, and then written or
 // refused.
+#![tactic(auto)]
+
 ghost use Rattle.std.specs.Prelude.{◌≡◌, ◌++◌, ◌+◌, ◌≤◌, length};
 ghost use Rattle.fields.specs.Written.{field_text, end_of_header};
 ghost use Rattle.fields.specs.Parts.{field_as};
