@@ -1,5 +1,7 @@
 // The notation of recorded answers, a vector a line: OPERATION ARG.. = ANSWER, separated by blanks. A text stands in bars, where
 // `%XX` is a byte that cannot stand for itself; a number is in decimal.
+#![tactic(auto)]
+
 ghost use Rattle.std.specs.Prelude.{◌≤◌, ◌<◌, length};
 
 // The place after the first b from `from` on, or the end.
