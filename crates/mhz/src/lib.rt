@@ -1,4 +1,6 @@
 // Frequencies: a text that says megahertz, as whole hertz, and back. After `mhz_string_to_hz` and `hz_to_mhz_string` of `adif.rs`.
+#![tactic(auto)]
+
 ghost use Rattle.std.specs.Prelude.{◌≡◌, length};
 ghost use Rattle.output.specs.Put.{Put, Room};
 ghost use Rattle.mhz.specs.Reading.{read_hertz};
