@@ -1,4 +1,6 @@
 // Contacts written as a list, one behind the other: a list is begun, and each contact appended to it.
+#![tactic(auto)]
+
 ghost use Rattle.std.specs.Prelude.{◌≡◌, ◌+◌, ◌≤◌, ◌<◌, length, take};
 ghost use Rattle.output.specs.Put.{Put, Room};
 ghost use Rattle.contacts.specs.Contacts.{contact, bytes_of, counted, entry_text};

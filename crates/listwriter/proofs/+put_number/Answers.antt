@@ -2,14 +2,9 @@ use native.Mathlib.Omega.{arith}
 use borrow.Author.Rules.{rules}
 use Rattle.listwriter.proofs.PartLaws.{number_none, number_first, number_last, number_put}
 use Prim.Native.Nat.{ℕ, ◌<◌}
-use borrow.Fn.Kinds.{In}
-use borrow.Fn.PlainCycle.{Measures, is, falls, and}
 use Rattle.listwriter.proofs.put_number.Reads as put_number
-use Rattle.listwriter.proofs.put_number.Kinds as put-number-kinds
-use Rattle.listwriter.proofs.+put_number.Lts-put_number as put-number-lts
 use Rattle.output.proofs.put_byte.Reads as put-byte-reads
-use Rattle.listwriter.proofs.+put_number.{statement}
-use Rattle.listwriter.proofs.+put_number.Tie.{close}
+use Rattle.listwriter.proofs.+put_number.Goals as goal
 
 abbrev μ-put-number : Measures 1 put-number-kinds.ps ℕ
 μ-put-number κs a = a.1.1.0
@@ -27,7 +22,9 @@ put-number-returns : (t : ℕ) → put-number-lts.Need-returns (
   put_number.Post,
   put-byte-reads.Asked,
   put-byte-reads.Learnt,
+
 ) (put-number-at t) put_number.Post
+
 put-number-returns t c = search number_none
 
 put-number-sub-put-number : (t : ℕ) → put-number-lts.Need-overflow-sub-put-number (
@@ -35,7 +32,9 @@ put-number-sub-put-number : (t : ℕ) → put-number-lts.Need-overflow-sub-put-n
   put_number.Post,
   put-byte-reads.Asked,
   put-byte-reads.Learnt,
+
 ) (put-number-at t) put_number.Post
+
 put-number-sub-put-number t c = search rules
 
 put-number-put-number-requires : (t : ℕ) → put-number-lts.Need-put-number-requires (
@@ -43,7 +42,9 @@ put-number-put-number-requires : (t : ℕ) → put-number-lts.Need-put-number-re
   put_number.Post,
   put-byte-reads.Asked,
   put-byte-reads.Learnt,
+
 ) (put-number-at t) put_number.Post
+
 put-number-put-number-requires t c κs = (omega arith, search number_first)
 
 put-number-cast-put-byte : (t : ℕ) → put-number-lts.Need-overflow-cast-put-byte (
@@ -51,7 +52,9 @@ put-number-cast-put-byte : (t : ℕ) → put-number-lts.Need-overflow-cast-put-b
   put_number.Post,
   put-byte-reads.Asked,
   put-byte-reads.Learnt,
+
 ) (put-number-at t) put_number.Post
+
 put-number-cast-put-byte t c = search rules
 
 put-number-put-byte-requires : (t : ℕ) → put-number-lts.Need-put-byte-requires (
@@ -59,7 +62,9 @@ put-number-put-byte-requires : (t : ℕ) → put-number-lts.Need-put-byte-requir
   put_number.Post,
   put-byte-reads.Asked,
   put-byte-reads.Learnt,
+
 ) (put-number-at t) put_number.Post
+
 put-number-put-byte-requires t c κs = search number_last
 
 put-number-same-length : (t : ℕ) → put-number-lts.Need-same-length (
@@ -67,7 +72,9 @@ put-number-same-length : (t : ℕ) → put-number-lts.Need-same-length (
   put_number.Post,
   put-byte-reads.Asked,
   put-byte-reads.Learnt,
+
 ) (put-number-at t) put_number.Post
+
 put-number-same-length t c = search rules
 
 put-number-returns-2 : (t : ℕ) → put-number-lts.Need-returns-2 (
@@ -75,15 +82,11 @@ put-number-returns-2 : (t : ℕ) → put-number-lts.Need-returns-2 (
   put_number.Post,
   put-byte-reads.Asked,
   put-byte-reads.Learnt,
+
 ) (put-number-at t) put_number.Post
+
 put-number-returns-2 t c = search number_put
 
-pub +put-number-spec : {M : Type 1} → statement M
-+put-number-spec = close μ-put-number λ t. put-number-lts.spec (
-  put-number-below t,
-  put_number.Post,
-  put-byte-reads.Asked,
-  put-byte-reads.Learnt,
 )
     (put-number-at t)
     put_number.Post
