@@ -9,4 +9,4 @@ use Rattle.normalize.proofs.modes.parent_of_key.Goals as goal
 
 pub returns : goal.returns
 unfolding parent_of_key submodes mode_names modes key_of raised
-returns c = c.mode_at_lem.ensures ∙ ap (λ (f : Found). entry_at (mode_numbers submodes) f) c.first_key.ensures
+returns c = c.mode_at.ensures ∙ ap (λ (f : Found). entry_at (mode_numbers submodes) f) c.first_key.ensures
