@@ -4,7 +4,6 @@ use mathlib.Core.Bool.{Bool, true, false}
 use mathlib.Core.List.{List}
 use Prim.Native.Nat.{ℕ, ◌+◌, ◌-◌, ◌≤◌, ◌<◌}
 use lib.ListN.{length, take, drop}
-use lib.Dec.{leb}
 use borrow.Author.Tests.{le-leb, lt-leb}
 use Rattle.text.specs.Walk.{ends}
 use Rattle.text.specs.Find.{other}
@@ -22,7 +21,7 @@ use Rattle.refusals.specs.Refusals.{number_of, place_of, of_text, of_texts}
 use Rattle.refusals.specs.declared.Refusal.{Refusal}
 use Rattle.refusals.specs.declared.Verdict.{Verdict}
 use Rattle.refusals.specs.declared.Verdict.TheVariants.{Accepted, Refused}
-use Rattle.ox_text.specs.Texts.{check_of, trim_of, untold_of, told_of, blank_of, same_of, same_raised_of, order_number, order_of, find_from, find_of, unnumbered_of, numbered_of, of_unsigned, of_signed, unsigned_answer, signed_answer}
+use Rattle.ox_text.specs.Texts.{check_of, trim_of, untold_of, blank_of, same_of, same_raised_of, order_number, order_of, find_from, find_of, unnumbered_of, of_unsigned, of_signed, unsigned_answer, signed_answer}
 use Rattle.ox_text.specs.declared.Told.{Told}
 use Rattle.ox_text.specs.declared.Numbered.{Numbered}
 

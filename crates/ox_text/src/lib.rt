@@ -1,5 +1,7 @@
 // What `text`, `letters`, `decimal` and `output` do to plain texts. A text is refused with 1 above 16,777,216 bytes, then with 2
 // where it is not UTF-8; `place` is then the first bad byte's, and 0 otherwise.
+#![tactic(auto)]
+
 ghost use Rattle.std.specs.Prelude.{◌≡◌, length};
 ghost use Rattle.decimal.specs.Digits.{decimal};
 ghost use Rattle.ox_text.specs.Texts.{check_of, trim_of, untold_of, blank_of, same_of, same_raised_of, order_number, order_of, find_from, find_of, unnumbered_of, of_unsigned, of_signed, unsigned_answer, signed_answer};
