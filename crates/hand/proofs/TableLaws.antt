@@ -1,10 +1,10 @@
 -- Rows laid into a table, one after the other. Assumes nothing.
-use mathlib.Core.Path.{◌≡◌, refl, ap}
+use mathlib.Core.Path.{◌≡◌, refl}
 use mathlib.Core.List.{List, [], ◌∷◌, ◌++◌, append_assoc}
-use Prim.Native.Nat.{ℕ, suc, ◌+◌, ◌*◌, ◌<◌}
+use Prim.Native.Nat.{ℕ, ◌+◌, ◌*◌, ◌<◌}
 use native.Mathlib.Omega.{arith}
 use native.Mathlib.Numerals.{add-one}
-use lib.ListN.{length, get_or, take, set}
+use lib.ListN.{length, get_or, take}
 use lib.Seq.{length-take-le, take-suc, sets}
 use Rattle.text.proofs.StoreLaws.{sets_append}
 use Rattle.adif.specs.Reading.{Row}

@@ -1,7 +1,7 @@
 use lib.Seq.{sets}
 use Rattle.hand.specs.Rows.{laid}
 use Prim.Native.Nat.{◌≤◌, ◌-◌, ◌+◌, ◌*◌}
-use mathlib.Core.Path.{◌≡◌, ◌∙◌}
+use mathlib.Core.Path.{◌≡◌}
 use lib.ListN.{length, take}
 use Rattle.hand.proofs.move_rows.Given as goal
 

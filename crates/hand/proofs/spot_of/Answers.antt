@@ -1,7 +1,5 @@
 use Rattle.hand.proofs.InsertLaws.{none_passed, found_later, found_below, found_same, found_above, found_end}
 use borrow.Author.Rules.{rules}
-use mathlib.Core.Path.{◌≡◌}
-use Prim.Native.Nat.{◌≤◌, ◌-◌}
 use Rattle.hand.proofs.spot_of.Goals as goal
 
 pub loop-i-init : goal.loop-i-init

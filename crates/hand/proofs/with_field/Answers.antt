@@ -6,7 +6,7 @@ use borrow.Author.Rules.{rules}
 use Rattle.hand.proofs.with_field.Goals as goal
 
 pub offset_bounds-rows-at : goal.offset_bounds-rows-at
-offset_bounds-rows-at c = let h : c.spot_of_lem.result.at < length c.args.rows.now = search below_rows in search rules
+offset_bounds-rows-at c = let h : c.spot_of-p.result.at < length c.args.rows.now = search below_rows in search rules
 
 pub bounds-rows-at : goal.bounds-rows-at
 bounds-rows-at c = search below_rows
@@ -18,7 +18,7 @@ pub returns-then-used-rows : goal.returns-then-used-rows
 returns-then-used-rows c = search full
 
 pub shift_in-requires : goal.shift_in-requires
-shift_in-requires c = let a = c.args in (within_used a.text.now a.rows.now a.used a.t4 c.spot_of_lem.result _ c.part-name.ensures c.spot_of_lem.ensures (omega arith), omega arith)
+shift_in-requires c = let a = c.args in (within_used a.text.now a.rows.now a.used a.row c.spot_of-p.result _ c.part-name.ensures c.spot_of-p.ensures (omega arith), omega arith)
 
 pub returns : goal.returns
-returns c = let a = c.args in shifted a.text.now a.rows.now a.used a.t4 c.spot_of_lem.result _ c.part-name.ensures c.spot_of_lem.ensures (omega arith) c.if-p.false c.if-used-rows.false c.shift_in.new.0 c.shift_in.auto.0 c.shift_in.ensures
+returns c = let a = c.args in shifted a.text.now a.rows.now a.used a.row c.spot_of-p.result _ c.part-name.ensures c.spot_of-p.ensures (omega arith) c.if-p.false c.if-used-rows.false c.shift_in.new.rows c.shift_in.auto.rows c.shift_in.ensures
