@@ -1,5 +1,4 @@
-use Prim.Native.Nat.{◌≤◌, ◌-◌}
-use mathlib.Core.Path.{◌≡◌, refl}
+use mathlib.Core.Path.{refl}
 use borrow.Author.Rules.{rules}
 use Rattle.index.proofs.RowLaws.{mix_raised_on, mix_raised_end}
 use Rattle.index.proofs.stir_in_capitals.Goals as goal
