@@ -14,7 +14,7 @@ use lib.Dec.{eqb}
 use Rattle.text.specs.Pick.{pick, either}
 use Rattle.mhz.specs.Digits.{is_digit, digits_of, after_digits}
 use Rattle.mhz.specs.Number.{all_digits, pointed, whole_part, fraction_part, after_decimal, unsigned, negative}
-use Rattle.mhz.specs.Steps.{held, power_held, exponent_held}
+use Rattle.mhz.specs.Steps.{grown, held, power_held, exponent_held}
 use Rattle.mhz.specs.declared.number.Power.{Power}
 use Rattle.mhz.specs.declared.number.Power.TheVariants.{Malformed, Ten}
 
@@ -67,7 +67,7 @@ module _ (xs : List ℕ) where
 
 pub held_append : (most n : ℕ) (xs ys : List ℕ) → held most n (xs ++ ys) ≡ held most (held most n xs) ys
 held_append most n [] ys = refl
-held_append most n (x ∷ xs) ys = held_append most _ xs ys
+held_append most n (x ∷ xs) ys = held_append most (grown most n x) xs ys
 
 module _ (s : List ℕ) (start p b k e : ℕ) (q : drop p s ≡ after_digits (drop start s)) (g : b ≡ get_or s p 0) (f : k ≡ pick (eqb b 0x2E) 1 0) where
   is_pointed : eqb b 0x2E ≡ pointed (after_digits (drop start s))

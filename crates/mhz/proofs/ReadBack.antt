@@ -21,7 +21,7 @@ use Rattle.hertz.proofs.Back.{back, not_negative}
 use Rattle.mhz.specs.Digits.{is_digit, digits_of, after_digits, number_of, last_digits}
 use Rattle.mhz.specs.Number.{decimal as decimalNumber, negative, unsigned, pointed, whole_part, fraction_part, after_decimal, decimal_of, number_in}
 use Rattle.mhz.specs.Reading.{up, down, near, in_window, hertz_of, decimal_hertz, number_hertz, read_hertz}
-use Rattle.mhz.specs.Writing.{six_decimals, mhz_text, formatted, answer_to, Written}
+use Rattle.mhz.specs.Writing.{six_decimals, mhz_text, formatted, answer_to}
 use Rattle.mhz.specs.Theorems.{ReadBack, Carried}
 use Rattle.mhz.specs.declared.Hz.TheVariants.{Is}
 use Rattle.mhz.specs.declared.Wrote.TheVariants.{End}

@@ -1,6 +1,3 @@
-use Prim.Native.Nat.{◌+◌}
-use mathlib.Core.Path.{◌≡◌}
-use Prim.Native.Nat.{◌≤◌}
 use borrow.Author.Rules.{rules}
 use Rattle.mhz.proofs.WriteLaws.{left_start, left_on, left_end, room_last}
 use Rattle.mhz.proofs.put_last.Goals as goal

@@ -1,4 +1,3 @@
-use Prim.Native.Nat.{◌≤◌, ◌-◌}
 use borrow.Author.Rules.{rules}
 use Rattle.mhz.proofs.DigitLaws.{digit_low, reads_start, reads_on, reads_first, here_place, here_held, here_after, end_place, end_held, end_after}
 use Rattle.mhz.proofs.number.digits_from.Goals as goal

@@ -1,4 +1,3 @@
-use native.Mathlib.Omega.{arith}
 use Rattle.mhz.proofs.PartLaws.{no_exponent, exponent_malformed, exponent_is, sign_fits_after}
 use Rattle.mhz.proofs.number.exponent_at.Goals as goal
 

@@ -4,7 +4,7 @@ use borrow.Author.Rules.{rules}
 use Rattle.mhz.proofs.number.mantissa_from.Goals as goal
 
 pub overflow_add-from : goal.overflow_add-from
-overflow_add-from c = omega (arith, point_fits c.args.s.now c.digits_from-whole.result.at c.byte.result c.one_if_lem.result c.digits_from-whole.ensures.s_value.1.1.1 c.byte.ensures c.one_if_lem.ensures)
+overflow_add-from c = omega (arith, point_fits c.args.s.now c.digits_from-whole.result.at c.byte.result c.one_if.result c.digits_from-whole.ensures.from_le_at.1 c.byte.ensures c.one_if.ensures)
 
 pub digits_from-rest-requires : goal.digits_from-rest-requires
 digits_from-rest-requires c = (search point_fits, search rules)
