@@ -1,10 +1,9 @@
 -- The answers, what is UTF-8 and what is within the limit. Assumes nothing.
 use mathlib.Core.Path.{◌≡◌, refl, sym, ◌∙◌}
-use mathlib.Core.Bool.{Bool, true, false, not}
+use mathlib.Core.Bool.{Bool, true, false}
 use mathlib.Core.List.{List}
 use Prim.Native.Nat.{ℕ}
 use lib.ListN.{length}
-use borrow.Author.Tests.{not-true, not-false}
 use Rattle.text.specs.Pick.{both}
 use Rattle.text.specs.Utf8.{utf8}
 use Rattle.refusals.specs.Written.{fitted}

@@ -1,4 +1,6 @@
 // A station's fields, as they stand in each of its records. They are measured first, and then written or refused.
+#![tactic(auto)]
+
 ghost use Rattle.std.specs.Prelude.{◌≡◌, ◌++◌, ◌≤◌, length};
 ghost use Rattle.output.specs.Put.{Put, Room};
 ghost use Rattle.refusals.specs.Written.{output_by};

@@ -1,0 +1,9 @@
+use native.Mathlib.Omega.{arith}
+use Rattle.headers.proofs.SizeLaws.{first_sizes}
+use Rattle.station.proofs.place_size.Goals as goal
+
+pub returns-clause-value : goal.returns-clause-value
+returns-clause-value c = search first_sizes
+
+pub returns-clause-upper_bound : goal.returns-clause-upper_bound
+returns-clause-upper_bound c = omega arith
