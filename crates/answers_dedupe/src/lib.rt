@@ -1,4 +1,6 @@
 // What the library answers to the vectors on duplicates, in their own notation.
+#![tactic(auto)]
+
 ghost use Rattle.std.specs.Prelude.{◌≤◌, length};
 
 use dedupe::Key;
