@@ -2,8 +2,6 @@ use Rattle.listwriter.proofs.AppendLaws.{too_long, too_long_out, unheaded, unhea
 use borrow.Author.Rules.{rules}
 use Rattle.listwriter.proofs.append.Goals as goal
 
-)
-
 pub returns-then-any-clause-value : goal.returns-then-any-clause-value
 returns-then-any-clause-value c = search (rules, too_long)
 
@@ -15,6 +13,7 @@ enter-requires c = (
   from_five _ _ _ _ c.heading_in-heading.ensures c.in-Accepted.is,
   search not_long,
   can_grow _ _ _ c.heading_in-heading.ensures c.in-Accepted.is,
+)
 
 pub returns-in-Refused-clause-value : goal.returns-in-Refused-clause-value
 returns-in-Refused-clause-value c = search (rules, unheaded)
