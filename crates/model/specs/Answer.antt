@@ -1,5 +1,5 @@
 -- Which QSOs are QSOs of a text, and what normalising one answers.
-use Rattle.std.specs.Prelude.{ℕ, ◌+◌, Bool, true, false, List, [], ◌∷◌, eqb, leb, ltb, length, replicate}
+use Rattle.std.specs.Prelude.{ℕ, ◌+◌, Bool, true, List, [], ◌∷◌, eqb, leb, ltb, length, replicate}
 use Rattle.text.specs.Pick.{pick, both, either}
 use Rattle.text.specs.Utf8.{utf8}
 use Rattle.refusals.specs.declared.Refusal.{Refusal}

@@ -1,4 +1,6 @@
 // A contact: thirteen columns, each a place in a text, beside its numbers; and how it is normalised. After `model.rs`.
+#![tactic(auto)]
+
 ghost use Rattle.std.specs.Prelude.{◌≡◌, ◌≤◌, length};
 ghost use Rattle.normalize.specs.Normal.{modal};
 ghost use Rattle.model.specs.Flags.{one_if};
