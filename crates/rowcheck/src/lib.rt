@@ -1,5 +1,7 @@
 // Which rows the writer takes, one after the other: places in the text, whole characters, numbers and names in order, names that can be
 // written, and the limits of docs/SCOPE.md.
+#![tactic(auto)]
+
 ghost use Rattle.std.specs.Prelude.{◌≡◌, ◌+◌, ◌≤◌, get_or};
 ghost use Rattle.tags.specs.Tags.{kind_of};
 ghost use Rattle.rowcheck.specs.Check.{name_in, value_in, placed, lacks, is_field, is_less, writable, follows, counted, sound, verdict, is_fine};
