@@ -4,12 +4,12 @@
 # that all of them took.
 set -u
 cd "$(dirname "$0")/.." || exit 1
-[ $# -ge 1 ] && grep -q "^$1:" crates.txt || {
+[ $# -ge 1 ] && grep -q "^$1\( staticlib\)\?:" crates.txt || {
     echo "above: no crate ${1:-named}" >&2
     exit 2
 }
 awk -v crate="$1" '
-FILENAME == "crates.txt" { name = $1; sub(/:/, "", name); order[++n] = name; for (i = 2; i <= NF; i++) on[name, $i] = 1; next }
+FILENAME == "crates.txt" { sub(/ staticlib:/, ":"); name = $1; sub(/:/, "", name); order[++n] = name; for (i = 2; i <= NF; i++) on[name, $i] = 1; next }
 /^rt: [a-z0-9_]+ proved \([0-9]+ s\)$/ { sub(/\(/, "", $4); seconds[$2] = $4; told = 1 }
 END {
     again[crate] = 1

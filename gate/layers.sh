@@ -6,6 +6,7 @@ cd "${1:-$(dirname "$0")/..}" || exit 1
 awk '
 FILENAME == "crates.txt" {
     if ($0 !~ /:/) next
+    sub(/ staticlib:/, ":")
     name = $1; sub(/:/, "", name); order[++n] = name; level[name] = 1
     for (i = 2; i <= NF; i++) on[name] = on[name] " " $i
     next

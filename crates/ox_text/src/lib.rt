@@ -1,5 +1,5 @@
 // What `text`, `letters`, `decimal` and `output` do to plain texts. A text is refused with 1 above 16,777,216 bytes, then with 2
-// where it is not UTF-8; `place` is then the first bad byte's, and 0 otherwise.
+// where it is not UTF-8; `place` is then the first bad byte's, and 0 otherwise. The crate `ox_text_c` exports these calls to C.
 #![tactic(auto)]
 
 ghost use Rattle.std.specs.Prelude.{◌≡◌, length};
@@ -70,8 +70,7 @@ pub struct Written {
     pub length: usize,
 }
 
-#[unsafe(no_mangle)]
-pub extern "C" fn ox_text_check(s: &[u8]) -> Checked
+pub fn ox_text_check(s: &[u8]) -> Checked
     ensures { result ≡ check_of s.now }
 {
     let verdict = check_text(s);
@@ -87,8 +86,7 @@ pub extern "C" fn ox_text_check(s: &[u8]) -> Checked
     }
 }
 
-#[unsafe(no_mangle)]
-pub extern "C" fn ox_text_trim(s: &[u8]) -> Trimmed
+pub fn ox_text_trim(s: &[u8]) -> Trimmed
     ensures { result ≡ trim_of s.now }
 {
     let verdict = check_text(s);
@@ -123,8 +121,7 @@ pub fn untold(why: Refusal) -> Told
     }
 }
 
-#[unsafe(no_mangle)]
-pub extern "C" fn ox_text_blank(s: &[u8]) -> Told
+pub fn ox_text_blank(s: &[u8]) -> Told
     ensures { result ≡ blank_of s.now }
 {
     let verdict = check_text(s);
@@ -138,8 +135,7 @@ pub extern "C" fn ox_text_blank(s: &[u8]) -> Told
     }
 }
 
-#[unsafe(no_mangle)]
-pub extern "C" fn ox_text_same(a: &[u8], b: &[u8]) -> Told
+pub fn ox_text_same(a: &[u8], b: &[u8]) -> Told
     ensures { result ≡ same_of a.now b.now }
 {
     let verdict = check_texts(a, b);
@@ -154,8 +150,7 @@ pub extern "C" fn ox_text_same(a: &[u8], b: &[u8]) -> Told
 }
 
 // The case of ASCII letters aside.
-#[unsafe(no_mangle)]
-pub extern "C" fn ox_text_same_raised(a: &[u8], b: &[u8]) -> Told
+pub fn ox_text_same_raised(a: &[u8], b: &[u8]) -> Told
     ensures { result ≡ same_raised_of a.now b.now }
 {
     let verdict = check_texts(a, b);
@@ -180,8 +175,7 @@ fn order_number(o: Order) -> u32
 }
 
 // The byte order of the two in capitals.
-#[unsafe(no_mangle)]
-pub extern "C" fn ox_text_order_raised(a: &[u8], b: &[u8]) -> Ordered
+pub fn ox_text_order_raised(a: &[u8], b: &[u8]) -> Ordered
     ensures { result ≡ order_of a.now b.now }
 {
     let verdict = check_texts(a, b);
@@ -210,8 +204,7 @@ fn find_from(s: &[u8], from: usize, b: u8) -> usize
     }
 }
 
-#[unsafe(no_mangle)]
-pub extern "C" fn ox_text_find(s: &[u8], from: usize, b: u8) -> Found
+pub fn ox_text_find(s: &[u8], from: usize, b: u8) -> Found
     ensures { result ≡ find_of s.now from b }
 {
     let verdict = check_text(s);
@@ -284,8 +277,7 @@ fn of_signed(n: Signed) -> Numbered
 }
 
 // As Rust's `parse::<u64>`.
-#[unsafe(no_mangle)]
-pub extern "C" fn ox_text_unsigned(s: &[u8]) -> Numbered
+pub fn ox_text_unsigned(s: &[u8]) -> Numbered
     ensures { result ≡ unsigned_answer s.now }
 {
     let verdict = check_text(s);
@@ -296,8 +288,7 @@ pub extern "C" fn ox_text_unsigned(s: &[u8]) -> Numbered
 }
 
 // As Rust's `parse::<i64>`.
-#[unsafe(no_mangle)]
-pub extern "C" fn ox_text_signed(s: &[u8]) -> Numbered
+pub fn ox_text_signed(s: &[u8]) -> Numbered
     ensures { result ≡ signed_answer s.now }
 {
     let verdict = check_text(s);
@@ -308,8 +299,7 @@ pub extern "C" fn ox_text_signed(s: &[u8]) -> Numbered
 }
 
 // n in decimal at the front of the output; 13 where it does not fit.
-#[unsafe(no_mangle)]
-pub extern "C" fn ox_text_digits(n: u64, out: &mut [u8]) -> Written
+pub fn ox_text_digits(n: u64, out: &mut [u8]) -> Written
     ensures { Wrote result out.old out.new (decimal n) }
 {
     let size = output::decimal_size(n);
