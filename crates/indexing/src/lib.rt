@@ -1,5 +1,7 @@
 // The contact index built: a lent record a contact, in chains along which `search` finds it. A list is checked whole before its index
 // is built.
+#![tactic(auto)]
+
 ghost use Rattle.std.specs.Prelude.{◌≡◌, ◌++◌, ◌+◌, ◌-◌, ◌%◌, ◌≤◌, ◌<◌, length, get_or, replicate};
 ghost use Rattle.std.proofs.lemmas.List.Edits.{sets};
 ghost use Rattle.contacts.specs.Lists.{Few};
