@@ -1,5 +1,5 @@
 -- The code of a key does not see names and capitals; a contact's places stand for its texts. Assumes nothing.
-use mathlib.Core.Path.{◌≡◌, refl, ap, ◌∙◌}
+use mathlib.Core.Path.{◌≡◌, refl, ◌∙◌}
 use mathlib.Core.Bool.{true, false}
 use mathlib.Core.List.{List}
 use Prim.Native.Nat.{ℕ, ◌+◌, ◌≤◌, ◌<◌}
@@ -9,7 +9,7 @@ use borrow.Author.Tests.{le-leb, lt-leb, leb-true}
 use Rattle.text.specs.Pick.{pick}
 use Rattle.text.proofs.BoolLaws.{cases}
 use Rattle.letters.specs.Capitals.{capitals}
-use Rattle.tables.specs.Place.{place, stands, in_text, part, value, bytes, name_of}
+use Rattle.tables.specs.Place.{stands, in_text, part, value, bytes, name_of}
 use Rattle.tables.specs.declared.Place.{Place}
 use Rattle.tables.specs.declared.Name.{Name}
 use Rattle.times.specs.Moments.{moment_of}

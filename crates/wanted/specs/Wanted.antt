@@ -1,7 +1,7 @@
 -- What is wanted of a log: the code of its key, and the contacts of a list as they are wanted in another.
 use Rattle.std.specs.Prelude.{ℕ, ◌+◌, ◌≡◌, refl, List, [], ◌∷◌, leb, length, get_or}
 use Rattle.text.specs.Pick.{pick}
-use Rattle.tables.specs.Place.{place, stands, bytes}
+use Rattle.tables.specs.Place.{stands, bytes}
 use Rattle.tables.specs.declared.Place.{Place}
 use Rattle.times.specs.Moments.{moment_of}
 use Rattle.dedupe.specs.declared.Key.{Key}

@@ -1,4 +1,6 @@
 // What a log is searched for: a key over a text, and a moment. A contact of a list is wanted in another as a record of a file is.
+#![tactic(auto)]
+
 ghost use Rattle.std.specs.Prelude.{◌≡◌, ◌≤◌, length, take};
 ghost use Rattle.text.specs.Pick.{pick};
 ghost use Rattle.tables.specs.Place.{in_text, part};
