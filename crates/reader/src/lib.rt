@@ -1,6 +1,8 @@
 // The reading of an ADIF text into a lent table: five numbers a row, in record order, and inside a record in strict byte order of the
 // raised names. The rows of the record in hand stand in an array of their own until the record is closed, so that the fields of a header
 // never use up lent rows.
+#![tactic(auto)]
+
 ghost use Rattle.std.specs.Prelude.{◌≡◌, ◌+◌, ◌*◌, ◌-◌, ◌/◌, ◌≤◌, ◌++◌, length, take, replicate};
 ghost use Rattle.adif.specs.Reading.{read_tags};
 ghost use Rattle.reader.specs.Table.{answer_of, answer_to, table_after, used_of, Shown};

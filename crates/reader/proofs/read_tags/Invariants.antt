@@ -1,0 +1,12 @@
+use mathlib.Core.Path.{◌∙◌}
+use Prim.Native.Nat.{◌≤◌, ◌-◌, ◌*◌}
+use mathlib.Core.Path.{◌≡◌}
+use lib.ListN.{length}
+use Rattle.reader.proofs.GoingLaws.{Going}
+use Rattle.reader.proofs.read_tags.Given as goal
+
+abbrev pub invariant-loop-reading : goal.invariant-loop-reading
+invariant-loop-reading l = (length l.hand ≡ 256) × (l.held ≤ 256) × (length l.table ≡ length l.initial.table) × (5 * l.rows ≤ length l.table) × Going l.text l.initial.table l.table l.hand l.at l.held l.records l.rows
+
+abbrev pub decreases-loop-reading : goal.decreases-loop-reading
+decreases-loop-reading l = length l.text - l.at
