@@ -1,9 +1,8 @@
 -- The first reason that applies. Assumes nothing.
 use mathlib.Core.Path.{◌≡◌, refl}
-use mathlib.Core.Bool.{Bool, true, false, not}
+use mathlib.Core.Bool.{Bool, true, false}
 use mathlib.Core.List.{List}
 use Prim.Native.Nat.{ℕ}
-use borrow.Author.Tests.{not-true, not-false}
 use Rattle.text.specs.Space.{blank, trimmed}
 use Rattle.contacts.specs.Contacts.{is_date, is_time}
 use Rattle.usable.specs.Reasons.{reason_by}

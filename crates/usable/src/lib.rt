@@ -1,4 +1,6 @@
 // Whether a record can be made into a contact, and why not. After `check` of `import.rs`.
+#![tactic(auto)]
+
 ghost use Rattle.std.specs.Prelude.{◌≡◌};
 ghost use Rattle.text.specs.Space.{blank, trimmed};
 ghost use Rattle.contacts.specs.Contacts.{is_date, is_time};
