@@ -1,4 +1,6 @@
 // Rows to ADIF text: the rows are checked and their text measured first, and then it is written, or nothing is.
+#![tactic(auto)]
+
 ghost use Rattle.std.specs.Prelude.{◌≡◌, ◌++◌, ◌+◌, ◌*◌, ◌-◌, ◌≤◌, ◌<◌, length};
 ghost use Rattle.rowcheck.specs.Check.{record_in};
 ghost use Rattle.fields.specs.Written.{field_text};
