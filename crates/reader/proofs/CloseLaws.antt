@@ -1,5 +1,5 @@
 -- A record closed and a reading finished, by the tests that the code makes. Assumes nothing.
-use mathlib.Core.Path.{◌≡◌, refl, sym, ap, ◌∙◌}
+use mathlib.Core.Path.{◌≡◌, refl, sym, ◌∙◌}
 use mathlib.Core.List.{List, [], ◌∷◌, ◌++◌}
 use Prim.Native.Nat.{ℕ, ◌+◌, ◌*◌, ◌-◌, ◌/◌, ◌≤◌, ◌<◌}
 use native.Mathlib.Omega.{arith}
@@ -10,7 +10,7 @@ use borrow.Author.Tests.{lt-ltb, le-ltb, le-leb, lt-leb}
 use Rattle.text.specs.Pick.{pick}
 use Rattle.refusals.specs.declared.Refusal.{Refusal}
 use Rattle.refusals.specs.declared.Refusal.TheVariants.{ManyRecords, FewRows}
-use Rattle.adif.specs.Records.{on, no, records, refused, total, close, finish}
+use Rattle.adif.specs.Records.{on, no, records, total, close}
 use Rattle.adif.specs.Reading.{Row, rows}
 use Rattle.hand.specs.Rows.{laid}
 use Rattle.reader.specs.Table.{laid_from}

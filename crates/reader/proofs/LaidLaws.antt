@@ -1,10 +1,10 @@
 -- The rows of records as they lie in a table, and the zeros behind them. Assumes nothing.
 use mathlib.Core.Path.{◌≡◌, refl, sym, ap, ◌∙◌}
 use mathlib.Core.List.{List, [], ◌∷◌, ◌++◌, append_assoc, append-nil}
-use Prim.Native.Nat.{ℕ, zero, suc, ◌+◌, ◌*◌, ◌-◌, ◌≤◌}
+use Prim.Native.Nat.{ℕ, suc, ◌+◌, ◌*◌, ◌-◌, ◌≤◌}
 use native.Mathlib.Nat.{add-zero}
 use native.Mathlib.Omega.{arith}
-use lib.ListN.{length, take, drop, set, replicate, length-append, length-replicate, replicate-append-replicate, drop_of_length-le}
+use lib.ListN.{length, take, drop, set, length-append, length-replicate, replicate-append-replicate, drop_of_length-le}
 use lib.Seq.{sets, length-sets, sets-eq, take_at}
 use Rattle.adif.specs.Records.{total}
 use Rattle.adif.specs.Reading.{Row}

@@ -1,7 +1,7 @@
 -- The whole reading: the verdict on the text, the tags, and the zeros behind the rows. Assumes nothing.
 use mathlib.Core.Path.{◌≡◌, refl, sym, ◌∙◌}
 use mathlib.Core.List.{List, ◌++◌}
-use Prim.Native.Nat.{ℕ, ◌+◌, ◌*◌, ◌-◌, ◌/◌, ◌^◌, ◌≤◌, ◌<◌}
+use Prim.Native.Nat.{ℕ, ◌*◌, ◌-◌, ◌/◌, ◌^◌, ◌≤◌, ◌<◌}
 use native.Mathlib.Omega.{arith}
 use lib.ListN.{length, take}
 use mir.Syntax.{w64}
@@ -11,7 +11,7 @@ use Rattle.refusals.specs.declared.Refusal.{Refusal}
 use Rattle.refusals.specs.declared.Verdict.{Verdict}
 use Rattle.refusals.specs.declared.Verdict.TheVariants
 use Rattle.adif.specs.Records.{records, refused, total}
-use Rattle.adif.specs.Reading.{Row, RowsRead, read_tags, read_text}
+use Rattle.adif.specs.Reading.{RowsRead, read_tags, read_text}
 use Rattle.adif.proofs.Exactly.{fit_length}
 use Rattle.reader.specs.Table.{laid_from, zeros, answer_of, table_of, answer_to, table_after, used_of, Shown}
 use Rattle.reader.specs.declared.Reading.{Reading}

@@ -6,7 +6,6 @@ use native.Mathlib.Omega.{arith}
 use lib.ListN.{length}
 use mir.Syntax.{w32, w64}
 use mir.Val.{Fits}
-use lib.Dec.{leb}
 use borrow.Author.Tests.{le-leb}
 use Rattle.refusals.specs.declared.Refusal.{Refusal}
 use Rattle.refusals.specs.declared.Refusal.TheVariants.{ManyNames}
@@ -23,7 +22,7 @@ use Rattle.hand.specs.declared.Kept.TheVariants.{Used, Full}
 use Rattle.hand.proofs.InsertLaws.{used_is, full_is}
 use Rattle.reader.specs.Stands.{Stands, Closing, Closes, Finishes, Turned, Turns, of_closed, of_kept}
 use Rattle.reader.specs.declared.Reading.{Reading}
-use Rattle.reader.specs.declared.Reading.TheVariants.{Read, Refused}
+use Rattle.reader.specs.declared.Reading.TheVariants.{Refused}
 use Rattle.reader.specs.declared.Closed.{Closed}
 use Rattle.reader.specs.declared.Closed.TheVariants as closing
 use Rattle.reader.specs.declared.Turn.{Turn}

@@ -1,5 +1,5 @@
 -- The answer to a reading, and the lent table after it.
-use Rattle.std.specs.Prelude.{◌≡◌, List, [], ◌∷◌, ◌++◌, ℕ, suc, ◌+◌, ◌*◌, ◌-◌, ◌/◌, ◌≤◌, length, take, replicate}
+use Rattle.std.specs.Prelude.{◌≡◌, List, [], ◌∷◌, ◌++◌, ℕ, suc, ◌*◌, ◌-◌, ◌/◌, ◌≤◌, length, take, replicate}
 use Rattle.adif.specs.Records.{records, refused, total}
 use Rattle.adif.specs.Reading.{Row, RowsRead, read_text}
 use Rattle.hand.specs.Rows.{laid}

@@ -1,6 +1,4 @@
 use borrow.Author.Rules.{rules}
-use Prim.Native.Nat.{◌≤◌, ◌-◌}
-use mathlib.Core.Path.{◌≡◌}
 use lib.ListN.{length-set}
 use Rattle.reader.proofs.LaidLaws.{cleared_none, cleared_more, cleared}
 use native.Mathlib.Omega.{arith}

@@ -12,4 +12,4 @@ pub returns-then-table-rows : goal.returns-then-table-rows
 returns-then-table-rows c = close_few _ _ _ _ _ _ (omega arith) c.if-held-eq0.false c.if-records-ge-RECORDS.false c.if-table-rows.true
 
 pub returns : goal.returns
-returns c = close_moved _ _ _ _ _ _ (omega arith) c.if-held-eq0.false c.if-records-ge-RECORDS.false _ c.if-table-rows.false c.move_rows.auto.0 c.move_rows.ensures
+returns c = close_moved _ _ _ _ _ _ (omega arith) c.if-held-eq0.false c.if-records-ge-RECORDS.false _ c.if-table-rows.false c.move_rows.auto.table c.move_rows.ensures

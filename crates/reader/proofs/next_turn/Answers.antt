@@ -30,7 +30,7 @@ pub returns-in-Eor : goal.returns-in-Eor
 returns-in-Eor c = turn_eor _ _ _ _ _ _ _ _ c.next_tag-tag.ensures _ _ c.in-Eor.is _ _ c.close.ensures _ c.of_closed.ensures
 
 pub returns-in-Field : goal.returns-in-Field
-returns-in-Field c = turn_field _ _ _ _ _ _ _ _ c.next_tag-tag.ensures _ _ _ _ _ c.in-Field.is _ c.with_field-kept.ensures c.args.hand.now c.with_field-kept.auto.1.0 c.requires.1 _ c.of_kept-in-Field.ensures
+returns-in-Field c = turn_field _ _ _ _ _ _ _ _ c.next_tag-tag.ensures _ _ _ _ _ c.in-Field.is _ c.with_field-kept.ensures c.args.hand.now c.with_field-kept.auto.rows c.requires.1 _ c.of_kept-in-Field.ensures
 
 pub returns-in-Refused : goal.returns-in-Refused
 returns-in-Refused c = turn_refused _ _ _ _ _ _ _ _ c.next_tag-tag.ensures _ c.in-Refused.is

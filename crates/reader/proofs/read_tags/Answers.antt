@@ -1,7 +1,5 @@
 use mathlib.Core.Path.{◌∙◌}
 use borrow.Author.Rules.{rules}
-use Prim.Native.Nat.{◌≤◌, ◌-◌, ◌*◌}
-use mathlib.Core.Path.{◌≡◌}
 use Rattle.reader.proofs.GoingLaws.{going_start, going_on, going_held, going_fits, going_less, over_answer, over_shown}
 use Rattle.reader.proofs.read_tags.Goals as goal
 
@@ -9,16 +7,12 @@ pub loop-reading-init : goal.loop-reading-init
 loop-reading-init c = search (rules, going_start)
 
 pub returns-in-Over-clause-value : goal.returns-in-Over-clause-value
-returns-in-Over-clause-value c = let l = c.loop-reading in (
-  over_answer _ _ _ _ _ _ _ _ l.invariant.4 l.invariant.2 _ _ _ c.next_turn-turned.ensures _ c.in-Over.is,
-  over_shown _ _ _ _ _ _ _ _ l.invariant.4 l.invariant.2 _ _ _ c.next_turn-turned.ensures _ c.in-Over.is,
-)
+returns-in-Over-clause-value c = let l = c.loop-reading in
+    over_answer _ _ _ _ _ _ _ _ l.invariant.4 l.invariant.2 _ _ _ c.next_turn-turned.ensures _ c.in-Over.is
 
 pub returns-in-Over-clause-shown : goal.returns-in-Over-clause-shown
-returns-in-Over-clause-shown c = let l = c.loop-reading in (
-  over_answer _ _ _ _ _ _ _ _ l.invariant.4 l.invariant.2 _ _ _ c.next_turn-turned.ensures _ c.in-Over.is,
-  over_shown _ _ _ _ _ _ _ _ l.invariant.4 l.invariant.2 _ _ _ c.next_turn-turned.ensures _ c.in-Over.is,
-)
+returns-in-Over-clause-shown c = let l = c.loop-reading in
+    over_shown _ _ _ _ _ _ _ _ l.invariant.4 l.invariant.2 _ _ _ c.next_turn-turned.ensures _ c.in-Over.is
 
 pub loop-reading-smaller : goal.loop-reading-smaller
 loop-reading-smaller c = let l = c.loop-reading in
@@ -26,9 +20,9 @@ loop-reading-smaller c = let l = c.loop-reading in
 
 pub loop-reading-preserved : goal.loop-reading-preserved
 loop-reading-preserved c = let l = c.loop-reading in (
-  c.next_turn-turned.auto.1.1.0 ∙ l.invariant.0,
+  c.next_turn-turned.auto.hand ∙ l.invariant.0,
   going_held _ _ _ _ _ _ _ _ l.invariant.4 l.invariant.2 _ _ _ c.next_turn-turned.ensures _ _ _ _ c.in-On.is,
-  c.next_turn-turned.auto.1.0 ∙ l.invariant.2,
+  c.next_turn-turned.auto.table ∙ l.invariant.2,
   going_fits _ _ _ _ _ _ _ _ l.invariant.4 l.invariant.2 _ _ _ c.next_turn-turned.ensures _ _ _ _ c.in-On.is,
   going_on _ _ _ _ _ _ _ _ l.invariant.4 l.invariant.2 _ _ _ c.next_turn-turned.ensures _ _ _ _ c.in-On.is,
 )
