@@ -14,5 +14,5 @@ moment_from_once κs a x y d e p q = p ∙ sym q
 is_near_once : Once 0 is-near-kinds.ps is-near-kinds.r is-near.Post
 is_near_once κs a x y d e p q = p ∙ sym q
 
-find_once : Agrees find.ended (λ M 𝓤. find.clauses 𝓤) (λ κs d. tt {0})
+find_once : Agrees find.ended (λ M 𝓤 𝓛. find.clauses 𝓛) (λ κs d. tt {0})
 find_once M 𝓤 𝓛 mem run κs a g x y d e = agree 𝓤 _ _ (λ p q. (p ∙ sym q, refl))

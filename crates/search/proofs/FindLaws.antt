@@ -1,6 +1,6 @@
 -- A record of the index matches exactly if its contact does, and the walk down a chain finds the first that does. Assumes nothing.
 use mathlib.Core.Path.{◌≡◌, refl, sym, ap, ◌∙◌}
-use mathlib.Core.Bool.{Bool, true, false, not}
+use mathlib.Core.Bool.{Bool, true, false}
 use mathlib.Core.List.{List, [], ◌∷◌}
 use Prim.Native.Nat.{ℕ, zero, suc, ◌+◌, ◌-◌, ◌%◌, ◌≤◌, ◌<◌}
 use native.Mathlib.Nat.{mod-lt, div-add-mod', add-zero}
@@ -8,9 +8,9 @@ use native.Mathlib.Omega.{arith}
 use lib.ListN.{length, get_or}
 use lib.Dec.{eqb, leb, ltb}
 use lib.IntN.{ℤ, pos, negsuc}
-use borrow.Author.Tests.{eq-eqb, ne_eqb, not-true, not-false, leb-true, leb-false, lt-ltb, le-ltb}
-use Rattle.text.specs.Pick.{pick, both}
-use Rattle.text.proofs.BoolLaws.{cases, never, both_left, both_right, both_no, both_yes}
+use borrow.Author.Tests.{eq-eqb, ne_eqb, leb-true, leb-false, lt-ltb, le-ltb}
+use Rattle.text.specs.Pick.{pick}
+use Rattle.text.proofs.BoolLaws.{cases, both_left, both_right, both_no, both_yes}
 use Rattle.letters.specs.Same.{same, same_raised}
 use Rattle.letters.proofs.SameLaws.{same_true, same_raised_true}
 use Rattle.tables.specs.Place.{bytes}

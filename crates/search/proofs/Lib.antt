@@ -1,4 +1,3 @@
 pub mod ReadyLaws
 pub mod FindLaws
 pub mod Determined
-pub mod Values

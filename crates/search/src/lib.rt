@@ -1,5 +1,7 @@
 // The search of the contact index: the first contact of the list, by its id, that a record matches. It goes down one chain of the
 // index, which holds every contact of that key, and keeps the last match that it meets, which is the first of the list.
+#![tactic(auto)]
+
 ghost use Rattle.std.specs.Prelude.{◌≡◌, ◌≤◌, length};
 ghost use Rattle.text.specs.Pick.{pick};
 ghost use Rattle.index.specs.Rows.{joined, moment_from};
