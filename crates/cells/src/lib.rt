@@ -1,4 +1,6 @@
 // What each column of a QSO writes, in byte order of the columns' names.
+#![tactic(auto)]
+
 ghost use Rattle.std.specs.Prelude.{◌≡◌, length};
 ghost use Rattle.tables.specs.Place.{bytes};
 ghost use Rattle.cells.specs.Cells.{has_value, words_cell, band_cell, split_cell, megahertz_cell, entity_cell, cells_of, is_dropped};
