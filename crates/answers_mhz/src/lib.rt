@@ -1,4 +1,6 @@
 // What the library answers to the vectors on frequencies, in their own notation.
+#![tactic(auto)]
+
 ghost use Rattle.std.specs.Prelude.{◌≤◌, length};
 
 use notation::{put_byte, put_none, put_number};
