@@ -1,4 +1,6 @@
 // What the library answers to the vectors on bands and modes, in their own notation.
+#![tactic(auto)]
+
 ghost use Rattle.std.specs.Prelude.{◌≤◌, length};
 
 use normalize::{Classed, classes, modes};
