@@ -1,6 +1,14 @@
 // Replays recorded answers: for each file named as an argument, how many of its lines the library answers as the line says.
 // A line is OPERATION ARG.. = ANSWER; what the library answers is written out and held against the line's own ANSWER.
+#![tactic(auto)]
+
 ghost use Rattle.std.specs.Prelude.{◌≤◌, length};
+
+use std::env::FillError;
+use std::fs::File;
+use std::io::{Error, ErrorKind, Read, Write};
+use std::rt::Env;
+use std::{io, str};
 
 #[derive(Clone, Copy)]
 struct Tally {
@@ -92,36 +100,53 @@ fn count(s: &[u8]) -> Tally {
     }
 }
 
-// At most a hundred files, so that the loop is seen to end.
-fn main() {
-    let mut i = 1;
-    while i < os::arg_count() {
-        replay(i);
-        if i == 100 {
-            return;
-        }
-        i += 1;
+// At most a hundred files, so that the loop is seen to end. A name of more than 256 bytes stands for none.
+fn main(rt: HostRuntime) -> io::Result<()> {
+    for i in 1..101 {
+        let mut space = [0u8; 256];
+        let n = match rt.arg(i, &mut space) {
+            Ok(n) => n,
+            Err(FillError::TooLong) => 0,
+            Err(FillError::NotPresent) => return Ok(()),
+        };
+        replay(&rt, &space[..n])?;
+    }
+    Ok(())
+}
+
+fn open(rt: &HostRuntime, name: &[u8]) -> io::Result<File> {
+    match str::from_utf8(name) {
+        Ok(path) => File::open(rt, path),
+        Err(_) => Err(Error::from(ErrorKind::InvalidInput)),
     }
 }
 
-// One file, at most 65,536 bytes.
-fn replay(argument: usize) {
-    let mut space = [0u8; 256];
-    let n = os::arg(argument, &mut space);
-    let name = &space[..n];
-    let file = os::open_read(name);
-    if file < 0 {
-        os::fail(name);
-        return;
-    }
-    let mut buffer = io::large_buffer();
-    let size = io::read_full(file, &mut buffer);
-    libc::close(file);
+// One file, at most 65,536 bytes. Of one that cannot be opened, only why.
+fn replay(rt: &HostRuntime, name: &[u8]) -> io::Result<()> {
+    let mut file = match open(rt, name) {
+        Ok(file) => file,
+        Err(error) => {
+            rt.stderr().write_all(name)?;
+            return eprintln!(rt; ": {error}");
+        }
+    };
+    let mut buffer = [0u8; 65536];
+    let size = read_full(&mut file, &mut buffer);
     let tally = count(&buffer[..size]);
-    io::write_all(1, name);
-    io::write_all(1, b": ");
-    io::print_decimal(1, tally.agree as u64);
-    io::write_all(1, b" of ");
-    io::print_decimal(1, tally.lines as u64);
-    io::write_all(1, b" agree\n");
+    io::writer(rt).write_all(name)?;
+    println!(rt; ": {} of {} agree", tally.agree, tally.lines)
+}
+
+// Reads until the buffer is full, the input ends or a read fails, and says how many bytes it put at the front.
+fn read_full<R: Read>(input: &mut R, buffer: &mut [u8]) -> usize
+    ensures { result ≤ length buffer.new }
+{
+    let mut done = 0;
+    while done < buffer.len() {
+        match input.read(&mut buffer[done..]) {
+            Ok(n) if 0 < n => done += n,
+            _ => break,
+        }
+    }
+    done
 }

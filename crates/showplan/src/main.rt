@@ -1,4 +1,6 @@
 // What importing the ADIF text on standard input would do to an empty log, at a window of 1800 seconds.
+#![tactic(auto)]
+
 ghost use Rattle.std.specs.Prelude.{◌≡◌, ◌≤◌, length};
 ghost use Rattle.output.specs.Put.{Put};
 ghost use Rattle.index.specs.Contacts.{no_contact};
@@ -6,6 +8,8 @@ ghost use Rattle.showplan.specs.Printed.{records_in, shown_text, PlannedIn, prin
 
 use index::Contact;
 use planner::Planned;
+use std::io;
+use std::io::{Read, Write};
 
 // The longest text, in bytes.
 const LONGEST: usize = 49_152;
@@ -81,10 +85,24 @@ fn shown(text: &[u8], out: &mut [u8]) -> usize
     show_planned(plan, &fates, out)
 }
 
-fn main() {
-    let mut buffer = io::large_buffer();
-    let size = io::read_full(0, &mut buffer);
+// Reads until the buffer is full, the input ends or a read fails, and says how many bytes it put at the front.
+fn read_full<R: Read>(input: &mut R, buffer: &mut [u8]) -> usize
+    ensures { result ≤ length buffer.new }
+{
+    let mut done = 0;
+    while done < buffer.len() {
+        match input.read(&mut buffer[done..]) {
+            Ok(n) if 0 < n => done += n,
+            _ => break,
+        }
+    }
+    done
+}
+
+fn main(rt: HostRuntime) -> io::Result<()> {
+    let mut buffer = [0u8; 65536];
+    let size = read_full(&mut rt.stdin(), &mut buffer);
     let mut out = [0u8; 196608];
     let n = shown(&buffer[..size], &mut out);
-    io::write_all(1, &out[..n]);
+    io::writer(&rt).write_all(&out[..n])
 }
