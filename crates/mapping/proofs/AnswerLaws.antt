@@ -1,10 +1,9 @@
 -- The numbers of a QSO, and the answer of a mapping. Assumes nothing.
 use mathlib.Core.Path.{◌≡◌, refl, sym, ap, ◌∙◌}
-use mathlib.Core.Bool.{Bool, true, false, not}
+use mathlib.Core.Bool.{Bool, true, false}
 use mathlib.Core.List.{List, []}
 use Prim.Native.Nat.{ℕ, ◌+◌, ◌-◌, ◌/◌, ◌≤◌, ◌<◌}
 use native.Mathlib.Omega.{arith}
-use lib.Dec.{eqb, leb}
 use lib.ListN.{length, get_or}
 use borrow.Author.Tests.{le-leb, lt-leb, eqb-true}
 use Rattle.text.specs.Pick.{pick, either}
@@ -19,7 +18,7 @@ use Rattle.mhz.specs.Digits.{number_of}
 use Rattle.mhz.specs.Number.{negative, unsigned, pointed, whole_part, fraction_part, after_decimal, all_digits, decimal_of, is_infinity, is_nan, unsigned_number, number_in}
 use Rattle.mhz.specs.Reading.{read_hertz}
 use Rattle.mhz.specs.declared.Hz.{Hz}
-use Rattle.mhz.specs.declared.Hz.TheVariants.{Absent, Is, Outside}
+use Rattle.mhz.specs.declared.Hz.TheVariants.{Absent, Is}
 use Rattle.refusals.specs.declared.Refusal.TheVariants.{TooLong, BadRow, InexactFrequency}
 use Rattle.rowcheck.specs.Check.{Row}
 use Rattle.writer.specs.Rows.{rows_from}

@@ -1,5 +1,5 @@
 -- Worked examples, over the text "band40m  dxcc-7foo".
-use Rattle.std.specs.Prelude.{◌≡◌, refl, true, List, [], ◌∷◌, ℕ, negsuc, set}
+use Rattle.std.specs.Prelude.{◌≡◌, refl, List, [], ◌∷◌, ℕ, negsuc, set}
 use Rattle.std.proofs.Math.Option.{some}
 use Rattle.text.specs.Ascii.{ascii}
 use Rattle.text.specs.Space.{space1, space2, space3, space80, space_len, space_back, width, trim_start, trim_end, trimmed}

@@ -1,4 +1,6 @@
 // A record's rows as a QSO over their text. After `record_to_qso` of `adif.rs`.
+#![tactic(auto)]
+
 ghost use Rattle.std.specs.Prelude.{◌≡◌, ◌+◌, ◌*◌, ◌≤◌, length, ltb};
 ghost use Rattle.text.specs.Pick.{both};
 ghost use Rattle.text.specs.Space.{trimmed};
