@@ -1,4 +1,6 @@
 // A whole list looked up in another: the index is built once, and each contact searched in it.
+#![tactic(auto)]
+
 ghost use Rattle.std.specs.Prelude.{◌≡◌, ◌≤◌, length, replicate};
 ghost use Rattle.std.proofs.lemmas.List.Edits.{sets};
 ghost use Rattle.times.specs.Window.{limit_of};
