@@ -1,12 +1,11 @@
 -- What a row adds to what was heard. Assumes nothing.
 use mathlib.Core.Path.{◌≡◌, refl, sym, ap, ◌∙◌}
-use mathlib.Core.Bool.{Bool, true, false, not}
-use mathlib.Core.List.{List, [], ◌∷◌, map}
+use mathlib.Core.Bool.{Bool, true, false}
+use mathlib.Core.List.{List, [], ◌∷◌}
 use Prim.Native.Nat.{ℕ, ◌+◌, ◌-◌, ◌≤◌, ◌<◌}
 use native.Mathlib.Omega.{arith}
 use lib.ListN.{get_or, take, get_or-map}
-use borrow.Author.Tests.{not-true}
-use Rattle.text.specs.Pick.{both, either}
+use Rattle.text.specs.Pick.{either}
 use Rattle.text.specs.Ascii.{ascii}
 use Rattle.letters.specs.Capitals.{raised}
 use Rattle.letters.specs.Same.{same_raised}

@@ -1,4 +1,6 @@
 // The confirmations that a record bears, from one pass over its rows. After `confirmations_in` of `import.rs`.
+#![tactic(auto)]
+
 ghost use Rattle.std.specs.Prelude.{◌≡◌, [], ◌+◌, ◌*◌, ◌≤◌, length};
 ghost use Rattle.writer.specs.Rows.{rows_from};
 ghost use Rattle.confirmations.specs.Confirmations.{begins, says, date_at, unanswered, attributed, stood, answers_of};

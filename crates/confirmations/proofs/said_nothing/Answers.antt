@@ -1,0 +1,4 @@
+use Rattle.confirmations.proofs.said_nothing.Goals as goal
+
+pub returns : goal.returns
+returns c = cc
