@@ -2,9 +2,9 @@
 use mathlib.Core.Path.{◌≡◌, refl, sym, ap, ◌∙◌}
 use mathlib.Core.Bool.{Bool, true, false, not}
 use mathlib.Core.List.{List, [], ◌∷◌, map}
-use Prim.Native.Nat.{ℕ, ◌+◌, ◌-◌, ◌^◌, ◌≤◌, ◌<◌}
+use Prim.Native.Nat.{ℕ, ◌+◌, ◌^◌, ◌≤◌, ◌<◌}
 use native.Mathlib.Omega.{arith}
-use lib.ListN.{length, get_or, take, drop, length-map, length-append, length-take, length-drop}
+use lib.ListN.{length, get_or, drop, length-map, length-append, length-take, length-drop}
 use lib.Seq.{take-length}
 use lib.Dec.{eqb}
 use borrow.Author.Tests.{eqb-true, eqb-false, ne_eqb}
@@ -23,7 +23,7 @@ use Rattle.tags.specs.Tags.{colon, gt, kind_of}
 use Rattle.tags.specs.declared.Kind.{Kind}
 use Rattle.tags.specs.declared.Kind.TheVariants.{EndOfHeader, EndOfRecord, EndOfFile, FieldName}
 use Rattle.adif.specs.Grammar.{Field, Without}
-use Rattle.adif.specs.Limits.{Before, Ascending}
+use Rattle.adif.specs.Limits.{Ascending}
 use Rattle.adif.proofs.Cuts.{Split, none, found, split, front_found}
 use Rattle.rowcheck.specs.Check.{Row, record_in, name_in, value_in, sound, lacks, is_field, writable, counted, verdict, check_from, check_of}
 use Rattle.refusals.specs.declared.Verdict.TheVariants.{Accepted}
@@ -116,14 +116,14 @@ module _ (text : List ℕ) (small : length text < 2 ^ 64) where
     same_number : ends_before n (r ∷ []) ≡ false → n ≡ record_in r
     same_number e = eqb-true n (record_in r) (not_no (eqb n (record_in r)) e)
       where
-        not_no : (t : Bool) → t ≡ true → t ≡ true
+        not_no : (t : Bool) → not t ≡ false → t ≡ true
         not_no true e = refl
         not_no false e = sym e
 
     other_number : ends_before n (r ∷ []) ≡ true → n ≡ record_in r → ⊥
     other_number e = eqb-false n (record_in r) (not_yes (eqb n (record_in r)) e)
       where
-        not_yes : (t : Bool) → t ≡ false → t ≡ false
+        not_yes : (t : Bool) → not t ≡ true → t ≡ false
         not_yes true e = sym e
         not_yes false e = refl
 

@@ -10,7 +10,7 @@ use Rattle.decimal.specs.Digits.{decimal}
 use Rattle.tags.specs.Tags.{lt, gt, colon}
 use Rattle.adif.specs.Records.{Outcome, records, total}
 use Rattle.adif.specs.Grammar.{Field, Why}
-use Rattle.adif.specs.Reading.{Row, RowsRead, read_tags, read_text}
+use Rattle.adif.specs.Reading.{RowsRead, read_tags, read_text}
 use Rattle.adif.specs.Told.{field_of, told_by}
 use Rattle.adif.proofs.Mapped.{map_outcome}
 use Rattle.adif.proofs.Agree.{reading_is}

@@ -3,7 +3,7 @@
 use mathlib.Core.Path.{◌≡◌, refl, sym, ap, ◌∙◌}
 use mathlib.Core.Bool.{Bool, true, false}
 use mathlib.Core.List.{List, [], ◌∷◌, ◌++◌, append_assoc}
-use Prim.Native.Nat.{ℕ, suc, ◌+◌, ◌^◌, ◌≤◌, ◌<◌}
+use Prim.Native.Nat.{ℕ, suc, ◌^◌, ◌≤◌, ◌<◌}
 use native.Mathlib.Omega.{arith}
 use lib.ListN.{length, length-map}
 use Rattle.text.specs.Pick.{pick, both}
@@ -203,13 +203,13 @@ module _ (call grid name state county cq itu : List ℕ) where
   unfolding raised
   station_rises =
       (given_rises [] my_county county _ refl
-      (given_rises _ my_cq_zone cq _ refl
-      (given_rises _ my_gridsquare grid _ refl
-      (given_rises _ my_itu_zone itu _ refl
-      (given_rises _ my_name name _ refl
-      (given_rises _ my_state state _ refl
-      (given_rises _ operator call _ refl
-      (given_rises _ station_callsign call [] refl (tt, tt))))))))).0
+      (given_rises (capitals my_county) my_cq_zone cq _ refl
+      (given_rises (capitals my_cq_zone) my_gridsquare grid _ refl
+      (given_rises (capitals my_gridsquare) my_itu_zone itu _ refl
+      (given_rises (capitals my_itu_zone) my_name name _ refl
+      (given_rises (capitals my_name) my_state state _ refl
+      (given_rises (capitals my_state) operator call _ refl
+      (given_rises (capitals operator) station_callsign call [] refl (tt, tt))))))))).0
 
   -- of UTF-8 texts they can be written and read
   pub station_good : (length call < 2 ^ 64) × (length grid < 2 ^ 64) × (length name < 2 ^ 64) × (length state < 2 ^ 64) × (length county < 2 ^ 64) × (length cq < 2 ^ 64) × (length itu < 2 ^ 64)

@@ -1,8 +1,8 @@
 -- The items of records mean those records, each gathered by its names; and a record whose names rise is gathered as it is. Assumes
 -- nothing.
-use mathlib.Core.Path.{◌≡◌, refl, ap, ◌∙◌}
+use mathlib.Core.Path.{◌≡◌, refl, ◌∙◌}
 use mathlib.Core.List.{List, [], ◌∷◌, ◌++◌, append-nil}
-use Prim.Native.Nat.{ℕ, zero, suc, ◌+◌, ◌≤◌, ◌<◌}
+use Prim.Native.Nat.{ℕ, suc, ◌+◌, ◌≤◌, ◌<◌}
 use native.Mathlib.Nat.{not-suc-le-zero}
 use native.Mathlib.Omega.{arith}
 use lib.ListN.{length, length-append}
@@ -12,11 +12,11 @@ use Rattle.letters.specs.Order.{order}
 use Rattle.letters.specs.declared.Order.{Order}
 use Rattle.letters.specs.declared.Order.TheVariants.{Less, Equal, Greater}
 use Rattle.letters.proofs.OrderLaws.{order_trans, order_flip}
-use Rattle.adif.specs.Records.{Item, eoh, eor, field, records, on, no, total, close, finish, placed, put, Ending, whole, meaning}
+use Rattle.adif.specs.Records.{eoh, eor, records, on, total, close, finish, placed, put, Ending, whole, meaning}
 use Rattle.adif.specs.Grammar.{Field, Why, plain, Items}
 use Rattle.adif.specs.Limits.{Ascending}
 use Rattle.adif.proofs.Plainly.{total_append}
-use Rattle.trip.specs.File.{Writable, Front, bare, header, Fit, Records, AllWritable, gathered, read_as}
+use Rattle.trip.specs.File.{Front, bare, header, Fit, Records, AllWritable, gathered, read_as}
 use Rattle.trip.proofs.Says.{items, all_items, front_items}
 
 abbrev pub named : Field → List ℕ

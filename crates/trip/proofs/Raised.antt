@@ -11,7 +11,7 @@ use borrow.Author.Tests.{le-leb, lt-leb, leb-true}
 use Rattle.text.specs.Pick.{pick, within}
 use Rattle.text.specs.Utf8.{char_len, long_char, second3, second4, valid_up_to}
 use Rattle.letters.specs.Capitals.{raised, capitals}
-use Rattle.letters.specs.Same.{same, same_raised}
+use Rattle.letters.specs.Same.{same_raised}
 use Rattle.letters.proofs.CapitalLaws.{capitals_twice}
 use Rattle.letters.proofs.SpaceLaws.{within_raised, byte_raised, lead_capitals}
 use Rattle.tags.specs.Tags.{kind_of, eoh, eor, eof}

@@ -14,10 +14,10 @@ use Rattle.letters.specs.Same.{same_raised}
 use Rattle.decimal.specs.Digits.{decimal}
 use Rattle.tags.specs.Tags.{lt, gt, colon, kind_of}
 use Rattle.tags.specs.declared.Kind.TheVariants.{EndOfHeader, EndOfRecord}
-use Rattle.adif.specs.Records.{Item, eoh, eor, field, Ending, whole}
+use Rattle.adif.specs.Records.{eoh, eor, field, Ending, whole}
 use Rattle.adif.specs.Grammar.{Field, Why, Items, Without, all, Tagged, Sized, Says, over, eoh_tag, eor_tag, field_tag}
 use Rattle.fields.specs.Written.{field_text, record_text, header_text}
-use Rattle.trip.specs.File.{Good, AllGood, Writable, Comment, Front, bare, header, Fit, Records, records_text, file_text, AllWritable}
+use Rattle.trip.specs.File.{Good, AllGood, Comment, Front, bare, header, Fit, Records, records_text, file_text, AllWritable}
 use Rattle.trip.proofs.Lengths.{decimal_read, decimal_colon, decimal_gt}
 
 pub without_append : (b : ℕ) (xs ys : List ℕ) → Without b xs → Without b ys → Without b (xs ++ ys)

@@ -14,10 +14,10 @@ use Rattle.fields.specs.Written.{fields_text, record_text}
 use Rattle.rowcheck.specs.Check.{Row, check_of}
 use Rattle.writer.specs.Rows.{rows_text, records_of}
 use Rattle.station.specs.Station.{station_fields, station_text, all7}
-use Rattle.trip.specs.File.{AllGood, Writable, Front, front_text, Fit, Records, records_text, file_text, AllWritable, gathered, read_as}
+use Rattle.trip.specs.File.{AllGood, Front, front_text, Fit, Records, records_text, file_text, AllWritable, gathered, read_as}
 use Rattle.trip.proofs.Means.{named, gathered_is}
 use Rattle.trip.proofs.Back.{told, read_back_lem}
-use Rattle.trip.proofs.Grouped.{rows_text_lem, closely}
+use Rattle.trip.proofs.Grouped.{rows_text_lem}
 use Rattle.trip.proofs.Trip.{Fits, rows_fit, rows_few, no_comment, between, between_length, between_writable, between_read, closely_is}
 use Rattle.trip.proofs.Fronts.{fields_join, good_join, station_good}
 

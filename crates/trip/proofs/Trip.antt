@@ -2,12 +2,12 @@
 -- before, between and after, read back as the records of those rows. Assumes nothing.
 use mathlib.Core.Path.{◌≡◌, refl, sym, ap, ◌∙◌}
 use mathlib.Core.List.{List, [], ◌∷◌, ◌++◌, map}
-use Prim.Native.Nat.{ℕ, suc, ◌+◌, ◌^◌, ◌≤◌, ◌<◌}
+use Prim.Native.Nat.{ℕ, suc, ◌^◌, ◌≤◌, ◌<◌}
 use lib.ListN.{length, length-map}
 use Rattle.text.specs.Walk.{lead}
 use Rattle.text.specs.Utf8.{valid_up_to}
 use Rattle.adif.specs.Records.{records, total, whole}
-use Rattle.adif.specs.Grammar.{Field, Items, Says}
+use Rattle.adif.specs.Grammar.{Field, Says}
 use Rattle.adif.specs.Limits.{Ascending}
 use Rattle.adif.specs.Reading.{read_text}
 use Rattle.rowcheck.specs.Check.{Row, check_of}
