@@ -1,4 +1,6 @@
 // The field of a column: its name, and the bytes of its cell.
+#![tactic(auto)]
+
 ghost use Rattle.std.specs.Prelude.{◌≡◌, ◌≤◌, length, take};
 ghost use Rattle.output.specs.Put.{Put, Room};
 ghost use Rattle.fields.specs.Parts.{open_text};
