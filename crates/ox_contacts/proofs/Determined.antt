@@ -21,14 +21,14 @@ ox_contacts_fresh_once : Once 1 fresh-kinds.ps fresh-kinds.r fresh.Post
 ox_contacts_fresh_once κs a x y d e p q = p ∙ sym q
 
 -- the answer and the index
-ox_contacts_index_once : Agrees index.ended (λ M 𝓤. index.clauses 𝓤) (λ κs d. d.1.0.now)
+ox_contacts_index_once : Agrees index.ended (λ M 𝓤 𝓛. index.clauses 𝓛) (λ κs d. d.1.0.now)
 ox_contacts_index_once M 𝓤 𝓛 mem run κs a g x y d e = agree_two 𝓤 _ _ _ _ (λ p q. (p.0 ∙ sym q.0, plain_once _ _ (p.1 ∙ sym q.1)))
 
 -- the answer with the index, and with the numbers found
-ox_contacts_search_index_once : Agrees search'.ended (λ M 𝓤. search'.clauses 𝓤) (λ κs d. d.1.1.1.0.now)
+ox_contacts_search_index_once : Agrees search'.ended (λ M 𝓤 𝓛. search'.clauses 𝓛) (λ κs d. d.1.1.1.0.now)
 ox_contacts_search_index_once M 𝓤 𝓛 mem run κs a g x y d e = agree_three 𝓤 _ _ _ _ _ _ (λ p q. (p.0 ∙ sym q.0, plain_once _ _ (p.1.0 ∙ sym q.1.0)))
 
-ox_contacts_search_found_once : Agrees search'.ended (λ M 𝓤. search'.clauses 𝓤) (λ κs d. d.1.1.1.1.0.now)
+ox_contacts_search_found_once : Agrees search'.ended (λ M 𝓤 𝓛. search'.clauses 𝓛) (λ κs d. d.1.1.1.1.0.now)
 ox_contacts_search_found_once M 𝓤 𝓛 mem run κs a g x y d e = agree_three 𝓤 _ _ _ _ _ _ (λ p q. (p.0 ∙ sym q.0, p.1.1 ∙ sym q.1.1))
 
 -- the answer and the output

@@ -1,3 +1,2 @@
 pub mod AnswerLaws
-mod Values
 pub mod Determined

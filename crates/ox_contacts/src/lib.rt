@@ -1,4 +1,6 @@
 // Contact lists: checked, their marks compared, indexed, searched and written. What is not said with an answer is 0 or false.
+#![tactic(auto)]
+
 ghost use Rattle.std.specs.Prelude.{◌≡◌, length};
 ghost use Rattle.times.specs.Window.{limit_of};
 ghost use Rattle.contacts.specs.Contacts.{contact};
