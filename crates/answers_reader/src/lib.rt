@@ -1,4 +1,6 @@
 // What the library answers to the vectors on reading, in their own notation: the eight numbers of the answer, then the table's.
+#![tactic(auto)]
+
 ghost use Rattle.std.specs.Prelude.{◌≤◌, length};
 
 use notation::{put_byte, put_number};
