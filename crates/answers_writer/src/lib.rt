@@ -1,5 +1,7 @@
 // What the library answers to the vectors on writing, in their own notation: OPERATION TEXT COUNT ROOM NUMBER.., and the refusal, how
 // many bytes were written, and the whole output.
+#![tactic(auto)]
+
 ghost use Rattle.std.specs.Prelude.{◌≤◌, length};
 
 use notation::{put_byte, put_number};
