@@ -13,7 +13,6 @@ use Rattle.columns.specs.Columns
 use Rattle.model.specs.Contact.{place_of, column_text}
 use Rattle.model.specs.Normal.{normal_qso}
 use Rattle.model.specs.declared.Qso.{Qso}
-use Rattle.model.specs.declared.Answer as model-answer
 use Rattle.mapping.specs.Mapping.{mapped}
 use Rattle.confirmations.specs.Confirmations.{answers_of}
 use Rattle.confirmations.specs.declared.Answer.{Answer}

@@ -1,4 +1,6 @@
 // What an import would do to a log. After `import.rs`. Here are the counts, which come from the fates alone.
+#![tactic(auto)]
+
 ghost use Rattle.std.specs.Prelude.{◌≡◌, ◌≤◌, length, get_or};
 ghost use Rattle.text.specs.Pick.{pick};
 ghost use Rattle.plan.specs.Fates.{count, fates_in};
