@@ -1,5 +1,7 @@
 // The fields of a QSO's columns and of its extra rows in one: both rise by their names, so that one pass merges them. The text is measured
 // by one pass, and put by another.
+#![tactic(auto)]
+
 ghost use Rattle.std.specs.Prelude.{◌≡◌, ◌*◌, ◌≤◌, length, take};
 ghost use Rattle.letters.specs.Order.{order_raised};
 ghost use Rattle.letters.specs.Same.{same_raised};

@@ -1,0 +1,7 @@
+use mathlib.Core.Path.{sym}
+use lib.Seq.{length-take-le}
+use Rattle.merge.proofs.RowLaws.{below_is}
+use Rattle.merge.proofs.is_below.Goals as goal
+
+pub returns : goal.returns
+returns c = search below_is
