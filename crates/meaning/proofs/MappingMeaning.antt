@@ -17,7 +17,6 @@ use Rattle.mhz.specs.Reading.{read_hertz}
 use Rattle.mhz.specs.declared.Hz.{Hz}
 use Rattle.mhz.specs.declared.Hz.TheVariants.{Absent, Is, Outside}
 use Rattle.tables.specs.Place.{absent, part, value, value_place}
-use Rattle.tables.specs.declared.Place.{Place}
 use Rattle.adif.specs.Grammar.{Field}
 use Rattle.rowcheck.specs.Check.{Row, name_in}
 use Rattle.writer.specs.Rows.{row_field}

@@ -1,7 +1,7 @@
 -- The places that normalising a QSO gives stand for the bytes that it should give. Assumes nothing.
 use mathlib.Core.Path.{◌≡◌, refl, sym, ap, ◌∙◌}
 use mathlib.Core.Bool.{Bool, true, false}
-use mathlib.Core.List.{List, [], ◌∷◌, map}
+use mathlib.Core.List.{List, [], ◌∷◌}
 use mathlib.Core.Option.{Option, none, some}
 use Prim.Native.Nat.{ℕ, zero, suc}
 use native.Mathlib.Omega.{arith}
@@ -13,7 +13,7 @@ use Rattle.text.specs.Space.{trim_start, trim_end, trimmed}
 use Rattle.text.specs.Walk.{lead}
 use Rattle.text.proofs.BoolLaws.{both_left, both_right}
 use Rattle.letters.specs.Capitals.{raised, capitals}
-use Rattle.letters.specs.Same.{same, same_raised}
+use Rattle.letters.specs.Same.{same_raised}
 use Rattle.letters.proofs.SpaceLaws.{trim_capitals}
 use Rattle.trip.proofs.Raised.{word_raised}
 use Rattle.tables.specs.Table.{named, entry}
@@ -28,7 +28,7 @@ use Rattle.normalize.specs.Normal.{otherwise, normal, normal_places, modal}
 use Rattle.normalize.proofs.Meaning.{mode_means, submode_means, one_text}
 use Rattle.columns.proofs.LaidLaws.{found_within}
 use Rattle.adif.specs.Grammar.{Field}
-use Rattle.model.specs.Contact.{Contact, contact, hertz}
+use Rattle.model.specs.Contact.{contact, hertz}
 use Rattle.model.specs.Normal.{band_name, band_of, canonical, is_blank, normal_band, normal_band_rx, normal_contact, band_at, known_band, blank, normal_band_place, normal_band_rx_place, normal_columns, normal_qso}
 use Rattle.model.specs.Flags.{is_yes}
 use Rattle.model.specs.Answer.{is_entry, is_fit, are_fit, is_placed, is_flagged, is_qso}
