@@ -7,7 +7,6 @@ use lib.ListN.{length, take, length-take}
 use Rattle.refusals.specs.declared.Refusal.{Refusal}
 use Rattle.refusals.specs.declared.Written.{Written}
 use Rattle.refusals.specs.declared.Written.TheVariants.{Bytes, Unwritten}
-use Rattle.adif.specs.Records.{total}
 use Rattle.adif.specs.Grammar.{Field}
 use Rattle.adif.specs.Reading.{read_text}
 use Rattle.reader.specs.Table.{answer_to, table_after}

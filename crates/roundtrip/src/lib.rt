@@ -1,4 +1,6 @@
 // Rows written and read back: what the writer and the reader promise, put together.
+#![tactic(auto)]
+
 ghost use Rattle.std.specs.Prelude.{◌≡◌};
 ghost use Rattle.writer.specs.Answer.{output_of};
 ghost use Rattle.roundtrip.specs.Trip.{trip_of, table_of, SaysSame};
