@@ -19,7 +19,7 @@ use Rattle.cells.specs.Cells.{column_order, cell_fields, is_dropped}
 use Rattle.cells.specs.declared.Cell.{Cell}
 use Rattle.cellfields.specs.Fields.{name_at, cell_field}
 use Rattle.cellfields.proofs.NameLaws.{names_from}
-use Rattle.merge.specs.Merge.{below, above, merged}
+use Rattle.merge.specs.Merge.{below, merged}
 use Rattle.merge.specs.Steps.{fields_between, merged_text, Cuts}
 use Rattle.merge.specs.declared.Cut.{Cut}
 

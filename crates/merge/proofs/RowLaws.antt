@@ -1,6 +1,6 @@
 -- Rows from one row up to another, put, measured, and cut at a name. Assumes nothing.
 use mathlib.Core.Path.{◌≡◌, refl, sym, ap, ◌∙◌}
-use mathlib.Core.Bool.{Bool, true, false, not}
+use mathlib.Core.Bool.{Bool, true, false}
 use mathlib.Core.List.{List, [], ◌∷◌, ◌++◌, append_assoc, append-nil, map}
 use Prim.Native.Nat.{ℕ, zero, suc, ◌+◌, ◌-◌, ◌≤◌, ◌<◌}
 use native.Mathlib.Nat.{add-zero}
@@ -8,7 +8,7 @@ use native.Mathlib.Omega.{arith}
 use lib.ListN.{length, take, length-append}
 use lib.Seq.{sets, length-sets}
 use lib.Dec.{leb}
-use borrow.Author.Tests.{not-true, not-false, leb-false}
+use borrow.Author.Tests.{leb-false}
 use Rattle.text.specs.Pick.{pick}
 use Rattle.letters.specs.Order.{order, order_raised}
 use Rattle.letters.specs.Same.{same, same_raised}
@@ -28,7 +28,6 @@ use Rattle.cellfields.specs.Fields.{name_at, column_name}
 use Rattle.cellfields.proofs.NameLaws.{column_capital, column_front}
 use Rattle.merge.specs.Merge.{below, above}
 use Rattle.merge.specs.Steps.{fields_between, Cuts}
-use Rattle.merge.specs.declared.Cut.{Cut}
 
 -- ---- the rows
 module _ (text t : List ℕ) where

@@ -1,7 +1,5 @@
 use borrow.Author.Rules.{rules}
 use native.Mathlib.Omega.{arith}
-use mathlib.Core.Path.{◌≡◌}
-use Prim.Native.Nat.{◌≤◌, ◌-◌}
 use Rattle.merge.proofs.RowLaws.{name_fits, name_front, cut_start, cut_on, cut_same, cut_above, cut_end}
 use Rattle.merge.proofs.cut_at.Goals as goal
 

@@ -1,5 +1,3 @@
-use mathlib.Core.Path.{sym}
-use lib.Seq.{length-take-le}
 use Rattle.merge.proofs.RowLaws.{same_is}
 use Rattle.merge.proofs.is_same.Goals as goal
 

@@ -1,7 +1,5 @@
 use borrow.Author.Rules.{rules}
 use native.Mathlib.Omega.{arith}
-use mathlib.Core.Path.{◌≡◌}
-use Prim.Native.Nat.{◌≤◌, ◌-◌}
 use Rattle.merge.proofs.MergeLaws.{measure_start, measure_skip, measure_on, measure_end}
 use Rattle.merge.proofs.merged_size.Goals as goal
 

@@ -1,7 +1,5 @@
 use borrow.Author.Rules.{rules}
 use native.Mathlib.Omega.{arith}
-use mathlib.Core.Path.{◌≡◌}
-use Prim.Native.Nat.{◌≤◌, ◌-◌}
 use Rattle.merge.proofs.MergeLaws.{merge_start, merge_skip, merge_rows, merge_column, merge_on, merge_last, merge_eor, merge_same, merge_end}
 use Rattle.merge.proofs.put_merged.Goals as goal
 

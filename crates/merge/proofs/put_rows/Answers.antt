@@ -1,5 +1,4 @@
 use native.Mathlib.Omega.{arith}
-use Prim.Native.Nat.{◌≤◌, ◌-◌}
 use Rattle.merge.proofs.RowLaws.{rest_start, rest_length, rows_room, rows_on, rows_end}
 use Rattle.merge.proofs.put_rows.Goals as goal
 

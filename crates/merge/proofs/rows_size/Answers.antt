@@ -1,6 +1,5 @@
 use native.Mathlib.Omega.{arith}
-use mathlib.Core.Path.{◌≡◌, refl}
-use Prim.Native.Nat.{◌≤◌, ◌-◌}
+use mathlib.Core.Path.{refl}
 use Rattle.merge.proofs.RowLaws.{size_on, size_end}
 use Rattle.merge.proofs.rows_size.Goals as goal
 
