@@ -1,4 +1,6 @@
 // What `showplan` prints of a plan, put at the front of a lent output: a line a record, then the summary; or why there is no plan.
+#![tactic(auto)]
+
 ghost use Rattle.std.specs.Prelude.{◌≡◌, [], ◌∷◌, ◌++◌, ◌≤◌, ◌<◌, length, get_or};
 ghost use Rattle.decimal.specs.Digits.{decimal};
 ghost use Rattle.output.specs.Put.{Put, Room};

@@ -1,0 +1,11 @@
+use Rattle.output.proofs.PutLaws.{room_first, room_next, put_then}
+use Rattle.show.proofs.put_number.Goals as goal
+
+pub put_decimal-a-requires : goal.put_decimal-a-requires
+put_decimal-a-requires c = search room_first
+
+pub put_byte-requires : goal.put_byte-requires
+put_byte-requires c = search room_next
+
+pub returns : goal.returns
+returns c = search put_then
