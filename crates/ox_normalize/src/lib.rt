@@ -1,5 +1,7 @@
 // What `normalize` does: bands, modes and mode classes. A place in an answer is a part of a text of the call, or an entry of
 // the table of bands or of modes, whose name `ox_entry_name` gives.
+#![tactic(auto)]
+
 ghost use Rattle.std.specs.Prelude.{◌≡◌, ◌≤◌, length};
 ghost use Rattle.tables.specs.Bands.{band_for, every_band};
 ghost use Rattle.tables.specs.Place.{place, stands, band_place, name_of};
