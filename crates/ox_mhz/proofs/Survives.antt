@@ -17,8 +17,7 @@ use Rattle.mhz.proofs.ReadBack.{read_back_lem, carried}
 use Rattle.mhz.proofs.WriteLaws.{mhz_short, mhz_utf8}
 use Rattle.ox_text.specs.declared.Written.{Written}
 use Rattle.ox_mhz.specs.Frequencies.{of_hz, frequency_of, of_wrote, WroteMhz}
-use Rattle.ox_mhz.specs.Theorems.{Survived, FrequencySurvives, RoomEnough}
-use Rattle.ox_mhz.specs.declared.Frequency.{Frequency}
+use Rattle.ox_mhz.specs.Theorems.{FrequencySurvives, RoomEnough}
 
 pub room_enough : RoomEnough
 room_enough = mhz_short

@@ -1,5 +1,7 @@
 // Megahertz texts to hertz, and back. A text is refused with 1, 2 and its place, and then with 15 where it is a number outside the
 // exact window; a frequency to write with 14, and then with 13 where the output is too short.
+#![tactic(auto)]
+
 ghost use Rattle.std.specs.Prelude.{◌≡◌};
 ghost use Rattle.ox_mhz.specs.Frequencies.{untuned_of, of_hz, frequency_of, of_wrote, WroteMhz};
 
