@@ -1,5 +1,7 @@
 // The records of a file as a plan sees them: mapped, normalised and checked, a row of plain numbers each. The table is one that a
 // reading left, so a record's rows lie together and each record has one.
+#![tactic(auto)]
+
 ghost use Rattle.std.specs.Prelude.{◌≡◌, ◌+◌, ◌*◌, ◌-◌, ◌/◌, ◌≤◌, ◌<◌, length, get_or, take, drop};
 ghost use Rattle.std.proofs.lemmas.List.Edits.{sets};
 ghost use Rattle.tables.specs.Place.{part};
