@@ -1,5 +1,7 @@
 // What `dedupe` does: the moment of a date and a time of day, and the tests on two QSOs, each over its own text. A text is refused with
 // 1, a date or a time that is not UTF-8 with 2, and a QSO that is none of its text with 11.
+#![tactic(auto)]
+
 ghost use Rattle.std.specs.Prelude.{◌≡◌};
 ghost use Rattle.ox_dedupe.specs.Duplicates.{untimed_of, timed_of, moment_answer, of_qsos, key_of, moment_in, in_log_answer, in_file_answer, natural_answer, within_answer, duplicate_answer};
 ghost use Rattle.ox_text.specs.Texts.{told_of};
