@@ -16,7 +16,6 @@ use Rattle.model.specs.Flags.{one_if}
 use Rattle.model.specs.Contact.{place_of, column_text}
 use Rattle.model.specs.Normal.{normal_qso}
 use Rattle.model.specs.declared.Qso.{Qso}
-use Rattle.model.specs.declared.Answer as model-answer
 use Rattle.mapping.specs.Mapping.{mapped}
 use Rattle.rowcheck.specs.Check
 use Rattle.dedupe.specs.declared.Key.{Key}

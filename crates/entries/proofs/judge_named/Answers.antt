@@ -1,5 +1,3 @@
-use mathlib.Core.Path.{sym}
-use lib.Seq.{length-take-le}
 use Rattle.entries.proofs.JudgeLaws.{judged_texts}
 use Rattle.entries.proofs.judge_named.Goals as goal
 

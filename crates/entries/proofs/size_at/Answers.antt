@@ -1,5 +1,3 @@
-use Prim.Native.Nat.{◌≤◌, ◌+◌, ◌-◌, ◌/◌}
-use mathlib.Core.Path.{◌≡◌}
 use native.Mathlib.Omega.{arith}
 use borrow.Author.Rules.{rules}
 use Rattle.entries.proofs.WalkLaws.{size_more, size_other, size_last}
