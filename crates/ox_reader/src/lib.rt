@@ -1,4 +1,6 @@
 // An ADIF text read into a lent table of 32-bit numbers, five a row. What is not said with an answer is 0.
+#![tactic(auto)]
+
 ghost use Rattle.std.specs.Prelude.{◌≡◌};
 ghost use Rattle.reader.specs.Table.{table_after};
 ghost use Rattle.ox_reader.specs.Readings.{unread_of, of_reading, read_answer};
