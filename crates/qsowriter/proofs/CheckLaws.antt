@@ -1,13 +1,13 @@
 -- The extra rows, checked one after the other. Assumes nothing.
 use mathlib.Core.Path.{◌≡◌, refl, sym, ◌∙◌}
-use mathlib.Core.Bool.{Bool, true, false, not}
+use mathlib.Core.Bool.{Bool, true, false}
 use mathlib.Core.List.{List, [], ◌∷◌}
 use Prim.Native.Nat.{ℕ, zero, suc, ◌+◌, ◌-◌, ◌*◌, ◌≤◌, ◌<◌}
 use native.Mathlib.Nat.{sub-zero}
 use native.Mathlib.Omega.{arith}
 use lib.Dec.{leb}
 use lib.ListN.{length}
-use borrow.Author.Tests.{not-true, le-leb}
+use borrow.Author.Tests.{le-leb}
 use Rattle.text.specs.Pick.{pick, both}
 use Rattle.refusals.specs.declared.Refusal.TheVariants.{BadRow, BadName, ManyNames}
 use Rattle.refusals.specs.declared.Verdict.{Verdict}

@@ -31,7 +31,6 @@ use Rattle.writer.specs.Rows.{rows_from, rows_of}
 use Rattle.cells.specs.Cells.{column_order, number_text, cell_text, is_dropped, said, has_value, words_cell, band_cell, split_cell, megahertz_cell, entity_cell, cells_of, cell_fields}
 use Rattle.cells.specs.declared.Cell.{Cell}
 use Rattle.cells.specs.declared.Cell.TheVariants.{Dropped, Words, Megahertz, Number}
-use Rattle.merge.specs.Merge.{merged}
 use Rattle.merge.specs.Steps.{fields_between, merged_text}
 use Rattle.qsowriter.specs.Record.{given, split_only, megahertz, signed_text, entity_text, column_fields, record_of}
 use Rattle.qsowriter.specs.Writing.{contact_with, qso_text}

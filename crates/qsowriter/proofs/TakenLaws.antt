@@ -15,7 +15,6 @@ use Rattle.letters.proofs.SameLaws.{same_true}
 use Rattle.tables.specs.Table.{named, is_found}
 use Rattle.tables.specs.declared.Name.{Name}
 use Rattle.columns.specs.Columns.{column_names, column_named}
-use Rattle.adif.specs.Grammar.{Field}
 use Rattle.columns.proofs.ColumnLaws.{named_raised}
 use Rattle.cells.specs.Cells.{column_order, is_dropped, cell_text, cell_fields}
 use Rattle.cells.specs.declared.Cell.{Cell}

@@ -1,5 +1,7 @@
 // A QSO as a record of ADIF text. After `qso_to_record` of `adif.rs`. The QSO and its extra rows are checked and the text is measured
 // first, and then it is written, or nothing is.
+#![tactic(auto)]
+
 ghost use Rattle.std.specs.Prelude.{◌≡◌, ◌+◌, ◌*◌, ◌≤◌, length, take};
 ghost use Rattle.text.specs.Pick.{pick};
 ghost use Rattle.letters.specs.Capitals.{capitals};
