@@ -2,7 +2,8 @@
 # docs/PROMISES.md beside the sources: `gate/promises.sh [ROOT]`. It fails, with a line each, where
 #   a public function has no row, no `ensures`, or fewer than two must-fail edits; an exported one has a `requires`;
 #   a row stands twice, names a call, a file, a definition, an edit or a theorem that is not there, or is wrong in whether the call asks;
-#   a call is not determined by a theorem `CALL-once`, or `CALL-TABLE-once` for each table that is lent;
+#   a call is not determined by a theorem `CALL_once`, or `CALL_TABLE_once` for each table that is lent;
+#   a crate `NAME_c`, which exports what the library `NAME` has, says another promise of a call than that, or exports what it has not;
 #   docs/DECISIONS.md names an edit that is not there.
 # The tests' own crates have no rows.
 set -u
@@ -22,6 +23,8 @@ function defines(file, name) {
     return read_file(file) ~ ("\n *((abbrev|unfoldable|pub|record|data) +)*" name "( |$|\n)")
 }
 function crate_of(call) { return (call in exported) ? exported[call] : substr(call, 1, index(call, "::") - 1) }
+# the library of whose calls a crate NAME_c is the exports
+function library_of(crate,    library) { library = crate; return sub(/_c$/, "", library) && (library in is_crate) ? library : crate }
 function last_of(call,    n, part) { n = split(call, part, "::"); return part[n] }
 
 # ---- the edits, as they come by standard input
@@ -44,6 +47,8 @@ FILENAME ~ /\.rt$/ {
         }
     }
     if (head != "") {
+        line = $0; sub(/^ *(pub )?(extern "C" )?fn /, "", line); gsub(/ +/, " ", line)
+        if ($1 != "{") said[head] = said[head] line
         if ($1 == "ensures") ensures[head] = 1
         else if ($1 == "requires") requires[head] = 1
         else { line = $0; lent[head] += gsub(/&mut \[/, "", line) }
@@ -55,7 +60,7 @@ FILENAME ~ /\.rt$/ {
 # ---- the theorems that a call is determined
 FILENAME ~ /Determined\.antt$/ {
     split(FILENAME, part, "/")
-    if ($0 ~ /^ *(pub )?[a-z0-9-]*once[a-z0-9-]* :/) { name = ($1 == "pub") ? $2 : $1; once[part[2]] = once[part[2]] " " name }
+    if ($0 ~ /^ *(pub )?[a-z0-9_]*once[a-z0-9_]* :/) { name = ($1 == "pub") ? $2 : $1; once[part[2]] = once[part[2]] " " name }
     next
 }
 
@@ -83,21 +88,30 @@ END {
     for (i = 1; i <= count; i++) {
         call = calls[i]; crate = crate_of(call); before = failed
         if (crate ~ /^(notation|answers_.*|replay)$/) continue
+        # what a library has and NAME_c exports is one call, with one row
+        if (exported[last_of(call)] == crate "_c") {
+            if (said[call] != said[last_of(call)]) fail(call ": " crate "_c exports it under another promise")
+            continue
+        }
+        if (crate != library_of(crate)) {
+            crate = library_of(crate)
+            if (!((crate "::" call) in known)) fail(call ": exported, and " crate " has no such call")
+        }
         if (!(call in definition)) fail(call ": no row")
         if (!(call in ensures)) fail(call ": no ensures")
         if ((call in exported) && (call in requires)) fail(call ": exported, and requires")
         if ((call in definition) && asks[call] != (call in requires)) fail(call ": requires " (asks[call] ? "nothing" : "something") ", and its row says otherwise")
         # determined
-        name = last_of(call); stem = name; gsub(/_/, "-", stem)
+        name = last_of(call); stem = name
         have = 0; n = split(once[crate], theorem, " ")
         for (k = 1; k <= n; k++) {
-            if (index(theorem[k], stem "-") != 1) continue
+            if (index(theorem[k], stem "_") != 1) continue
             rest = substr(theorem[k], length(stem) + 2)
             if (rest ~ /^once/) have++
-            else { sub(/-once$/, "", rest); gsub(/-/, "_", rest); if (!((crate "::" name "_" rest) in public)) have++ }
+            else { sub(/_once$/, "", rest); if (!((crate "::" name "_" rest) in public)) have++ }
         }
         if (have < (lent[call] > 1 ? lent[call] : 1))
-            fail(call ": " have " theorems " stem "-once in crates/" crate "/proofs/Determined.antt, lent tables " lent[call] + 0)
+            fail(call ": " have " theorems " stem "_once in crates/" crate "/proofs/Determined.antt, lent tables " lent[call] + 0)
         # edits
         n = split(edits[call], label, /[,;] */); given = 0
         for (k = 1; k <= n; k++) if (label[k] != "") { given++; if (!(label[k] in edit)) fail(call ": no edit " label[k]) }
