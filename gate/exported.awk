@@ -76,14 +76,22 @@ FILENAME ~ /\.rt$/ && FNR == 1 {
     sub(/.*\//, "", crate)
     split("", imported)
 }
-FILENAME ~ /\.rt$/ && /^use / {
-    path = $2
-    sub(/;$/, "", path)
-    last = path
-    sub(/.*::/, "", last)
-    imported[last] = path
+# `use path::Name;`, or `use path::{Name, Other};`
+FILENAME ~ /\.rt$/ && (using != "" || /^use /) {
+    using = using " " $0
+    if (using ~ /;/) {
+        sub(/^ *use +/, "", using)
+        sub(/;.*/, "", using)
+        path = using
+        sub(/\{.*/, "", path)
+        if (path == using) sub(/[A-Za-z0-9_]*$/, "", path)
+        listed = substr(using, length(path) + 1)
+        gsub(/[{} ]/, "", listed)
+        for (k = split(listed, names, ","); k > 0; k--) if (names[k] != "") imported[names[k]] = path names[k]
+        using = ""
+    }
 }
-FILENAME ~ /\.rt$/ && /^#\[no_mangle\]/ { marked++ }
+FILENAME ~ /\.rt$/ && /^#\[unsafe\(no_mangle\)\]/ { marked++ }
 # a struct up to its brace, a call up to the line on which its parameters end, where its answer stands
 FILENAME ~ /\.rt$/ && (item != "" || represented && /^pub struct / || /extern "C" fn /) {
     item = item " " $0
@@ -172,7 +180,7 @@ function reach(owner, written,    word, i) {
 }
 
 END {
-    if (calls == 0 || calls != marked) wrong(calls + 0 " calls were read, and " marked + 0 " are marked #[no_mangle]")
+    if (calls == 0 || calls != marked) wrong(calls + 0 " calls were read, and " marked + 0 " are marked #[unsafe(no_mangle)]")
     for (k = 1; k <= calls; k++) {
         for (i = 1; i <= count[call[k]]; i++) reach(call[k], type[call[k], i])
         reach(call[k], answer[call[k]])
