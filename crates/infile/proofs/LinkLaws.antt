@@ -6,7 +6,6 @@ use native.Mathlib.Nat.{mod-lt}
 use native.Mathlib.Numerals.{add-one}
 use native.Mathlib.Omega.{arith}
 use lib.ListN.{length, get_or, set, length-set}
-use lib.Dec.{eqb}
 use borrow.Author.Tests.{ne_eqb}
 use Rattle.chain.specs.Chain.{col, Pushed}
 use Rattle.chain.proofs.Chains.{kept, kept_of_lem, stored, other, linked_more, linked_without, linked_as, linked_by, linked_none}

@@ -1,5 +1,7 @@
 // Duplicates inside a file. The importable records of a plan's rows stand in chains, one for each remainder of their codes, so that a
 // record is compared with those of its own chain only.
+#![tactic(auto)]
+
 ghost use Rattle.std.specs.Prelude.{◌≡◌, ◌+◌, ◌<◌, length, get_or, eqb};
 ghost use Rattle.text.specs.Pick.{both};
 ghost use Rattle.entries.specs.Row.{moment_in};
