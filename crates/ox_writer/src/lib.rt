@@ -1,5 +1,7 @@
 // Rows of a text written as ADIF, the headers, and a station's fields. Each call writes at the front of the output and touches no byte
 // past what it reports, and none at all where it refuses.
+#![tactic(auto)]
+
 ghost use Rattle.std.specs.Prelude.{◌≡◌, length};
 ghost use Rattle.writer.specs.Answer.{answer_of, output_of};
 ghost use Rattle.refusals.specs.Written.{output_by};
