@@ -19,7 +19,7 @@ use Rattle.contacts.proofs.ListLaws.{good_inside, entries_next, accepted}
 use Rattle.index.specs.Rows.{Row}
 use Rattle.indexing.proofs.BuildLaws.{indexed_listed}
 use Rattle.dedupe.specs.Keys.{in_log}
-use Rattle.search.specs.Search.{near, moment_in, matches, first_from, first_match, place_from, place_of, Indexed}
+use Rattle.search.specs.Search.{moment_in, matches, first_from, first_match, place_from, place_of, Indexed}
 use Rattle.search.proofs.FindLaws.{near_within}
 use Rattle.search.proofs.ReadyLaws.{contacts_length, ready}
 use Rattle.plan.specs.Entry.{Entry, no_entry}

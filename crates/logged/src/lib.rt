@@ -1,5 +1,7 @@
 // What each record of a plan finds in the log: the number of the contact, and the place of its entry in the list, from which its id and
 // its services are read. This is the one phase of a plan that has the contact index.
+#![tactic(auto)]
+
 ghost use Rattle.std.specs.Prelude.{◌≡◌, ◌≤◌, ◌<◌, length};
 ghost use Rattle.std.proofs.lemmas.List.Edits.{sets};
 ghost use Rattle.index.specs.Contacts.{plain};
