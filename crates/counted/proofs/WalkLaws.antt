@@ -8,7 +8,7 @@ use native.Mathlib.Omega.{arith}
 use lib.ListN.{length, get_or}
 use Rattle.text.specs.Pick.{both}
 use Rattle.text.proofs.BoolLaws.{both_left, both_right}
-use Rattle.chain.specs.Chain.{any, col}
+use Rattle.chain.specs.Chain.{col}
 use Rattle.chain.proofs.Walks.{Any, any_start, any_hit, any_on, any_end, next_less}
 use Rattle.plan.specs.Confirmed.{has_bit}
 use Rattle.entries.specs.Row.{Row}

@@ -1,4 +1,6 @@
 // Confirmations that counted before, found along chains of the records at which a service counted.
+#![tactic(auto)]
+
 ghost use Rattle.std.specs.Prelude.{◌≡◌, [], ◌%◌, ◌≤◌, ◌<◌, length, get_or};
 ghost use Rattle.text.specs.Pick.{both};
 ghost use Rattle.plan.specs.Confirmed.{has_bit};
