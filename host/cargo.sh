@@ -29,14 +29,14 @@ nowhere() {
         env OXBREATHE_LIB="$work" "$cargo" check --package oxbreathe
 }
 listed() {
-    "$cargo" package --list --allow-dirty --package oxbreathe >"$work/list" || return 1
+    ./package.sh "$cargo" --list >"$work/list" || return 1
     for file in Cargo.toml LICENSE NOTICE README.md build.rs src/lib.rs src/sys.rs dist/liboxbreathe.a dist/BUILT; do
         grep -qxF "$file" "$work/list" || { echo "$file is not in the package"; return 1; }
     done
 }
 # the package by itself, with the library that is in it, in a program of a stranger
 packaged() {
-    "$cargo" package --no-verify --allow-dirty --package oxbreathe || return 1
+    ./package.sh "$cargo" --no-verify || return 1
     mkdir -p "$work/stranger/src"
     tar -x -z -C "$work" -f "$CARGO_TARGET_DIR/package/oxbreathe-0.1.0.crate"
     printf '[package]\nname = "stranger"\nedition = "2024"\n[dependencies]\noxbreathe = { path = "../oxbreathe-0.1.0" }\n' >"$work/stranger/Cargo.toml"

@@ -1,6 +1,6 @@
 # Compilers for x86-64, which is all that the proved library is for. On x86-64 the machine's own; on aarch64 Debian's rustc-web (unpacked, never
-# installed), the kit's clang with Debian's headers and C library, the kit's lld, and the kit's qemu to run what they built. For the scripts
-# beside it, which set $host, $out, $arch and $cache.
+# installed), the kit's clang with Debian's headers and C library, the kit's lld, and the kit's qemu to run what they built; a kit that has no
+# tools for such a machine cannot serve there, and RATTLE_HOME names another. For the scripts beside it, which set $host, $out, $arch and $cache.
 
 target=x86_64-unknown-linux-gnu
 
@@ -8,6 +8,9 @@ kit_tools() {
     command -v rt >/dev/null || die "no rt: Rattle's kit is needed for this"
     kit=${RATTLE_HOME:-$(dirname "$(dirname "$(readlink -f "$(command -v rt)")")")}
     tools=$kit/on/$arch/toolchain
+    # a kit for x86-64 alone
+    [ -d "$tools" ] || [ "$arch" != x86_64 ] || tools=$kit/toolchain
+    [ -x "$tools/bin/llvm-ar" ] || die "the kit at $kit has no tools for a machine of kind $arch: RATTLE_HOME names another kit"
 }
 no_recipe() { die "no recipe for a machine of kind $arch"; }
 # script FILE COMMAND: a script that becomes the command; in one step, since the one before it may be running
@@ -149,8 +152,14 @@ crates() {
     if [ "$(cat "$cache/crates.ok" 2>/dev/null)" != "$crates" ] || { ! is_new_enough cargo && [ ! -f "$cache/cargo.ok" ]; }; then
         going "fetching what ox is made with from Debian's packages" fetch_crates || exit 1
     fi
-    mkdir -p "$root/.cache"
-    ln -sfn "$cache/crates/usr/share/cargo/registry" "$root/.cache/crates"
+    # a copy and no link, which `rt ci` would refuse
+    if [ "$(cat "$root/.cache/crates/ok" 2>/dev/null)" != "$crates" ]; then
+        mkdir -p "$root/.cache"
+        rm -rf "$root/.cache/crates" "$root/.cache/crates.new"
+        cp -RL "$cache/crates/usr/share/cargo/registry" "$root/.cache/crates.new"
+        echo "$crates" >"$root/.cache/crates.new/ok"
+        mv "$root/.cache/crates.new" "$root/.cache/crates"
+    fi
 }
 fetch_crates() {
     apt_ready librust-clap-dev

@@ -70,7 +70,7 @@ dependencies() {
     "$rustc" --crate-name serde --crate-type proc-macro --edition 2021 --out-dir "$to" "$host/original/serde.rs"
     touch "$to/ok"
 }
-# original OPTION..: the original's files where they lie, through a link beside the crate's root
+# original OPTION..: the original's files, copied beside the crate's root (`rt ci` takes no links in a checkout)
 original() {
     source=${RIGFLOW_SRC:-$root/../shared/docs/src}/rigflow-log/src
     with_original=
@@ -81,53 +81,52 @@ original() {
     dependencies
     to=$out/$program
     mkdir -p "$out/original"
-    ln -sfn "$(cd "$source" && pwd -P)" "$out/original/rigflow"
+    rm -rf "$out/original/rigflow"
+    cp -RL "$source" "$out/original/rigflow"
     cp "$host/original/lib.rs" "$out/original/lib.rs"
     crate rusqlite 2024 "$host/original/rusqlite.rs" --crate-type rlib "$@"
     crate original 2024 "$out/original/lib.rs" --crate-type rlib --cap-lints allow --extern rusqlite="$to/librusqlite.rlib" \
         --extern serde="$deps/libserde.so" --extern chrono="$deps/libchrono.rlib" -L "$deps" "$@"
     with_original="--cfg original --extern original=$to/liboriginal.rlib -L $deps"
 }
-# the static library, built anew where a file or a folder of the crates is newer: the exported calls of each crate `ox_…`, whose
-# archives have one object each, as one archive. They are built side by side, what they stand on being proved first: `rt` has one checkout to
-# itself, so each lane but the first has its own, with the crates and their proofs of this one.
+# The static library, built anew where the sources or the kit are others than those that it was built of: the exported calls of each static
+# library `ox_…`, whose archives have one object each, as one archive. They are built side by side, each lane on a copy of the crates of its own
+# outside the checkout, since `rt` works on one crate of a checkout at a time; it begins with what was proved of them on this machine.
 staticlib() {
     made=$archive/liboxbreathe.a
-    if [ -f "$made" ] && [ -z "$(find "$root/crates" "$root/crates.txt" -newer "$made" | head -n 1)" ]; then
+    printf 'sources %s\nkit %s\n' "$("$host/sources.sh")" "$(rt version)" >"$out/BUILT"
+    if [ -f "$made" ] && cmp -s "$out/BUILT" "$archive/BUILT"; then
         return 0
     fi
     kit_tools
-    rm -rf "$made" "$made.new" "$root/target/lanes"
-    areas=$(sed -n 's/^\(ox_[a-z]*\):.*/\1/p' "$root/crates.txt")
-    # shellcheck disable=SC2046
-    (cd "$root" && quietly rt check $(sed -n 's/^ox_[a-z]*://p' "$root/crates.txt" | tr ' ' '\n' | sort -u))
-    lanes=$(nproc) lane=1
+    rm -rf "$made" "$made.new"
+    mkdir -p "$archive"
+    areas=$(sed -n 's/^\(ox_[a-z_]*\) staticlib:.*/\1/p' "$root/crates.txt")
+    # a check takes up to 4 GB
+    lanes=$(awk -v most="$(nproc)" '/^MemAvailable/ {n = int($2 / 4000000); print n < 1 ? 1 : n < most ? n : most}' /proc/meminfo)
+    LANES=$(mktemp -d) lane=0
+    export LANES
+    trap 'rm -rf "$LANES"' EXIT
     while [ "$lane" -lt "$lanes" ]; do
-        mkdir -p "$root/target/lanes/$lane/target"
-        ln -s "$root/crates" "$root/crates.txt" "$root/target/lanes/$lane/"
-        ln -s "$root/target/rlib" "$root/target/lanes/$lane/target/"
-        cp -R "$root/target/stamp" "$root/target/log" "$root/target/lanes/$lane/target/"
+        mkdir -p "$LANES/$lane"
+        cp "$root/crates.txt" "$LANES/$lane/"
+        (cd "$root" && find crates -path 'crates/*/out' -prune -o -type f -print0 | tar -c --null -T - | tar -x -C "$LANES/$lane")
         lane=$((lane + 1))
     done
     # the last are the longest
     echo "$areas" | tac | xargs -n 1 -P "$lanes" --process-slot-var=LANE "$0" area || die "the library was not built"
     for area in $areas; do
-        (cd "$archive" && "$tools/bin/llvm-ar" x "lib$area.a" "$area.o" && "$tools/bin/llvm-ar" rcsD "$made.new" "$area.o" && rm "$area.o")
+        (cd "$LANES" && "$tools/bin/llvm-ar" x "lib$area.a" "$area.o" && "$tools/bin/llvm-ar" rcsD "$made.new" "$area.o")
     done
-    rm -rf "$root/target/lanes"
-    printf 'sources %s\nkit %s\n' "$("$host/sources.sh")" "$(rt version)" >"$archive/BUILT"
+    rm -rf "$LANES"
+    cp "$out/BUILT" "$archive/BUILT"
     mv "$made.new" "$made"
     (cd "$archive" && sha256sum liboxbreathe.a >liboxbreathe.a.sha256)
 }
 # area NAME: one of them, in its lane
 area() {
-    lane=$root
-    [ "${LANE:-0}" = 0 ] || lane=$root/target/lanes/$LANE
-    (cd "$lane" && quietly rt staticlib "$1")
-    [ "$lane" = "$root" ] || {
-        mkdir -p "$root/target/staticlib"
-        mv "$lane/target/staticlib/lib$1.a" "$root/target/staticlib/"
-    }
+    (cd "$LANES/$LANE/crates/$1" && quietly rt lib --jobs 1)
+    mv "$LANES/$LANE/crates/$1/out/lib$1.a" "$LANES/"
 }
 # quietly COMMAND..: what it prints is shown only where it fails
 quietly() {

@@ -1,4 +1,5 @@
-//! Tells Cargo where the proved library is, in the folder OXBREATHE_LIB or in `dist` beside this file, and what it was built from.
+//! Tells Cargo where the proved library is, in the folder OXBREATHE_LIB, in `dist` beside this file, as in a package, or in `dist` of the
+//! repository, and what it was built from.
 
 use std::env;
 use std::fs;
@@ -30,7 +31,11 @@ fn library() -> Result<PathBuf, String> {
              build with --target x86_64-unknown-linux-gnu"
         ));
     }
-    let shipped = || Path::new(&env::var_os("CARGO_MANIFEST_DIR").unwrap_or_default()).join("dist");
+    let shipped = || {
+        let own = PathBuf::from(env::var_os("CARGO_MANIFEST_DIR").unwrap_or_default());
+        let packaged = own.join("dist");
+        if packaged.is_dir() { packaged } else { own.join("../../dist") }
+    };
     let folder = env::var_os("OXBREATHE_LIB").map_or_else(shipped, PathBuf::from);
     if folder.join("liboxbreathe.a").is_file() {
         return Ok(folder);
