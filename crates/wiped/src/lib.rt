@@ -1,4 +1,6 @@
 // What a plan leaves of its lent tables: of a record's row fate and reason alone; after a refusal nothing.
+#![tactic(auto)]
+
 ghost use Rattle.std.specs.Prelude.{◌≡◌, ◌≤◌, length, replicate};
 ghost use Rattle.std.proofs.lemmas.List.Edits.{sets};
 ghost use Rattle.entries.specs.Row.{no_row};
