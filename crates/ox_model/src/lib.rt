@@ -1,4 +1,6 @@
 // A record's rows as a QSO over their text, and a QSO normalised. What is not said with an answer is 0.
+#![tactic(auto)]
+
 ghost use Rattle.std.specs.Prelude.{◌≡◌};
 ghost use Rattle.ox_model.specs.Answers.{column_number, column_answer, refusal_of, answer_of, map_answer, map_normal_answer, normalize_answer};
 

@@ -1,0 +1,5 @@
+use Rattle.ox_model.proofs.AnswerLaws.{mapped_normal_is}
+use Rattle.ox_model.proofs.ox_record_to_normal_qso.Goals as goal
+
+pub returns : goal.returns
+returns c = search mapped_normal_is
