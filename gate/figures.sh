@@ -1,7 +1,7 @@
 #!/bin/sh
 # Figures for docs/FIGURES.md: gate/figures.sh [LOG]
-# The size of the repository, as a table; and from LOG, what a gate or `rt check` printed, the seconds of each part of the gate, of each
-# crate's proof, and of each crate's must-fail edits. Lines that are not blank are counted.
+# The size of the repository, as a table; and from LOG, what a gate printed, the seconds of each part of the gate. Lines that are not blank are
+# counted.
 set -u
 cd "$(dirname "$0")/.." || exit 1
 log=${1:-}
@@ -11,9 +11,9 @@ log=${1:-}
 }
 
 # lines NAME..: how many lines, of the files below crates/ that have such a path
-lines() { find crates "$@" -type f -exec cat {} + | grep -c .; }
-code() { find crates -path '*/src/*.rt' -exec cat {} +; }
-definitions() { find crates -path '*/specs/*.antt' -exec cat {} +; }
+lines() { find crates -path 'crates/*/out' -prune -o "$@" -type f -exec cat {} + | grep -c .; }
+code() { find crates -path 'crates/*/out' -prune -o -path '*/src/*.rt' -exec cat {} +; }
+definitions() { find crates -path 'crates/*/out' -prune -o -path '*/specs/*.antt' -exec cat {} +; }
 
 echo '| what | how much |'
 echo '|---|---|'
@@ -41,17 +41,7 @@ function flow(title, list,    n, i, word, line) {
     print line
 }
 /^== [a-z]+: [0-9]+ s$/ { sub(":", "", $2); parts = parts $2 " " $3 "\n"; all += $3 }
-/^rt: [a-z0-9_]+ proved \([0-9]+ s\)$/ { sub(/\(/, "", $4); crates = crates $2 " " $4 "\n"; sum += $4 }
-/^rt: must-fail [^ ]+: refused/ {
-    name = $3; sub(/\/.*/, "", name)
-    seconds = $0; sub(/ s\)$/, "", seconds); sub(/.*[ (]/, "", seconds)
-    if (!(name in cost)) order[++names] = name
-    cost[name] += seconds; edits[name]++; edit_sum += seconds; edit_count++
-}
 END {
     if (parts != "") flow("Seconds of the gate, " all " in all:", parts)
-    if (crates != "") flow("Seconds of each crate, " sum " in all:", crates)
-    for (i = 1; i <= names; i++) list = list order[i] " " cost[order[i]] " for " edits[order[i]] "\n"
-    if (list != "") flow("Seconds of the must-fail edits, " edit_sum " for " edit_count ":", list)
-    if (parts crates list == "") { print "figures: nothing of a gate in the log" > "/dev/stderr"; exit 2 }
+    if (parts == "") { print "figures: nothing of a gate in the log" > "/dev/stderr"; exit 2 }
 }' "$log"

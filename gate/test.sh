@@ -1,9 +1,7 @@
 #!/bin/sh
-# The gate: the layout of the sources, every proof, must-fail edit and program, the samples, the interfaces for C and Rust, the tool `ox`,
+# The gate: every proof, must-fail edit and program, with the layout of the sources, the samples, the interfaces for C and Rust, the tool `ox`,
 # and the library beside Rust's std and the original. Each part runs whatever the others said. The last line is `N passed, M failed`.
 set -u
-# a prover waits where others of its level or batch still run: two more than there are processors keep all of them busy
-export RT_JOBS="${RT_JOBS:-$(($(nproc) + 2))}"
 cd "$(dirname "$0")/.." || exit 1
 log=$(mktemp -d)
 trap 'rm -rf "$log"' EXIT
@@ -47,9 +45,6 @@ count() {
 # failure
 told() { sed -n "s/^$1\$/\1 \2/p" "$log/out" | tail -n 1 | grep . || echo 0 1; }
 
-part format rt fmt --check
-count $((status == 0)) 0
-
 part promises gate/promises.sh
 # shellcheck disable=SC2046
 count $(told 'promises: \([0-9]*\) passed, \([0-9]*\) failed')
@@ -58,7 +53,9 @@ part layers gate/layers.sh
 # shellcheck disable=SC2046
 count $(told 'layers: \([0-9]*\) passed, \([0-9]*\) failed')
 
+# it refuses a file that is not laid out, and lets a must-fail edit pass that cannot be applied or read, which tells of it
 part proofs rt ci
+! grep -q '^rt: ok.*, [0-9]* bad' "$log/out" || status=1
 # shellcheck disable=SC2046
 count $(told '\([0-9]*\) passed, \([0-9]*\) failed')
 
@@ -71,7 +68,8 @@ part samples gate/samples.sh
 count $(told 'samples: \([0-9]*\) passed, \([0-9]*\) failed')
 
 # a program can be tried with no proof, which is quick while one writes it
-part try rt try showplan
+tried() { (cd crates/showplan && rt try <stdin >"$log/tried" && cmp "$log/tried" stdout); }
+part try tried
 count $((status == 0)) 0
 
 part interface gate/interface.sh
