@@ -1,5 +1,5 @@
 -- A contact whose frequencies are at most 10 ^ 12 Hz keeps them, however often it is written, read and mapped. Assumes nothing.
-use mathlib.Core.Path.{◌≡◌, refl, sym, ap, ◌∙◌, subst}
+use mathlib.Core.Path.{◌≡◌, refl, sym, ap, ◌∙◌}
 use mathlib.Core.Option.{Option, none, some}
 use Prim.Native.Nat.{ℕ}
 use Rattle.model.specs.Contact.{Contact, contact}
@@ -7,7 +7,7 @@ use Rattle.model.specs.declared.Qso.{Qso}
 use Rattle.mapping.specs.Mapping.{extra_rows}
 use Rattle.qsowriter.specs.Writing.{contact_with}
 use Rattle.qsotrip.specs.Rewritten.{read_back, Survives}
-use Rattle.qsotrip.specs.Theorems.{Sent, sent_contact, rows_there, Arrived, arrived_contact, Trip, Trips, stayed, went_on, Low, Tuned, Arrives, FrequenciesLast}
+use Rattle.qsotrip.specs.Theorems.{Sent, sent_contact, rows_there, Arrived, arrived_contact, Trip, stayed, went_on, Low, Tuned, Arrives, FrequenciesLast}
 use Rattle.qsotrip.proofs.Lasting.{hertz_survives, frequency_back}
 use Rattle.qsotrip.proofs.Rows.{said_by, qso_of, mapped_is}
 use Rattle.qsotrip.proofs.Trip.{rows_read, rows_mean, round_tuned}

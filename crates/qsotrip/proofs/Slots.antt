@@ -3,7 +3,7 @@ use mathlib.Core.Path.{◌≡◌, refl}
 use mathlib.Core.Bool.{Bool, true, false}
 use mathlib.Core.List.{List, [], ◌∷◌, ◌++◌}
 use mathlib.Core.Option.{Option, none, some}
-use Prim.Native.Nat.{ℕ, suc, ◌+◌, ◌^◌, ◌≤◌, ◌<◌}
+use Prim.Native.Nat.{ℕ, suc, ◌^◌, ◌≤◌, ◌<◌}
 use Prim.Native.String.{String}
 use native.Mathlib.Omega.{arith}
 use lib.ListN.{length}
@@ -114,7 +114,7 @@ laid_rises (s ∷ ss) e = by s.value (laid_rises ss (both_right (all (before s) 
   where
     by : (o : Option (List ℕ)) → Ascending named (laid ss) → Ascending named (given s.name o ++ laid ss)
     by none i = i
-    by (some v) i = above_rising _ (laid ss) (laid_above (ascii s.name) ss (both_left (all (before s) ss) (pairs before ss) e)) i
+    by (some v) i = above_rising (record { name = ascii s.name; value = v }) (laid ss) (laid_above (ascii s.name) ss (both_left (all (before s) ss) (pairs before ss) e)) i
 
 pub columns_rise : (c : Contact) → Ascending named (column_fields c)
 columns_rise c = rw (columns_laid c) (laid_rises (slots c) refl)
