@@ -18,9 +18,8 @@ use Rattle.text.proofs.BoolLaws.{cases}
 use Rattle.times.specs.Window.{limit_of}
 use Rattle.dedupe.specs.Keys.{in_file}
 use Rattle.dedupe.specs.Views.{keys_in_file}
-use Rattle.chain.specs.Chain.{any, col}
+use Rattle.chain.specs.Chain.{col}
 use Rattle.chain.proofs.Chains.{over_same}
-use Rattle.search.specs.Search.{near}
 use Rattle.search.proofs.FindLaws.{near_within}
 use Rattle.plan.specs.Entry.{Entry, no_entry}
 use Rattle.plan.specs.Fates.{bears_any, repeats, repeated, fate_at, fates_to}

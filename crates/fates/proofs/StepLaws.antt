@@ -11,7 +11,7 @@ use lib.Dec.{ltb}
 use borrow.Author.Tests.{lt-ltb, le-ltb}
 use Rattle.text.specs.Pick.{pick}
 use Rattle.chain.specs.Chain.{col}
-use Rattle.chain.proofs.Chains.{kept, kept_of_lem, stored, other}
+use Rattle.chain.proofs.Chains.{kept_of_lem, stored, other}
 use Rattle.plan.specs.Fates.{fate_of}
 use Rattle.entries.specs.Row.{Row}
 use Rattle.infile.specs.Infile.{repeated_in, Chained, nexted, pushed}

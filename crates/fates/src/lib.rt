@@ -1,5 +1,7 @@
 // The fate of each record of a plan, by what it says and what it found in the log. Records are settled in their order, since one that is
 // importable makes a later one a duplicate.
+#![tactic(auto)]
+
 ghost use Rattle.std.specs.Prelude.{◌≡◌, false, List, ℕ, ◌<◌, length, get_or, ltb};
 ghost use Rattle.plan.specs.Entry.{Entry};
 ghost use Rattle.plan.specs.Fates.{fate_of};

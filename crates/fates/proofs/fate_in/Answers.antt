@@ -1,0 +1,11 @@
+use Rattle.fates.proofs.StepLaws.{fate_already, fate_repeated, fate_new}
+use Rattle.fates.proofs.fate_in.Goals as goal
+
+pub returns-then-fate-ne1 : goal.returns-then-fate-ne1
+returns-then-fate-ne1 c = search fate_already
+
+pub returns-then-is_repeated : goal.returns-then-is_repeated
+returns-then-is_repeated c = search fate_repeated
+
+pub returns : goal.returns
+returns c = search fate_new
