@@ -1,4 +1,6 @@
 // The count of confirmations, and the answers of a record, one after the other.
+#![tactic(auto)]
+
 ghost use Rattle.std.specs.Prelude.{◌≡◌, ◌+◌, ◌≤◌, ◌<◌, set};
 ghost use Rattle.model.specs.Flags.{one_if};
 ghost use Rattle.tallies.specs.Tallies.{target_in, target_of, is_new, is_old, is_lost, tally_with, card_for, unmarked, bits_of, services_in, Few, Grown};
