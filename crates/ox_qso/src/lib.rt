@@ -1,5 +1,7 @@
 // A QSO written as a record of ADIF text. The call writes at the front of the output and touches no byte past what it reports, and none at
 // all where it refuses.
+#![tactic(auto)]
+
 ghost use Rattle.std.specs.Prelude.{◌≡◌, length};
 ghost use Rattle.qsowriter.specs.Writing.{written_to, output_after};
 ghost use Rattle.ox_qso.specs.Answers.{of_written};
