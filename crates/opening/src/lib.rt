@@ -1,5 +1,7 @@
 // A plan begun: fates and confirmations are cleared, the text is read, and each record gets its row. A list that was refused, a text that
 // is, or too few rows leave nothing.
+#![tactic(auto)]
+
 ghost use Rattle.std.specs.Prelude.{◌≡◌, length, replicate};
 ghost use Rattle.entries.specs.Row.{no_row};
 ghost use Rattle.opening.specs.Opened.{OpenedRead, Opened, records_in};
