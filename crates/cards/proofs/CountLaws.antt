@@ -6,7 +6,7 @@ use Prim.Native.Nat.{ℕ, zero, suc, ◌<◌}
 use native.Mathlib.Omega.{arith}
 use lib.Dec.{eqb}
 use lib.ListN.{get_or}
-use borrow.Author.Tests.{eqb-true, eq-eqb, not-false}
+use borrow.Author.Tests.{eqb-true, eq-eqb}
 use Rattle.text.specs.Pick.{pick, both}
 use Rattle.text.specs.Space.{trimmed}
 use Rattle.text.proofs.BoolLaws.{cases, never, both_left, both_right, both_true}
@@ -34,6 +34,10 @@ unmatched_trans e f g p q =
     let bq = same_true f.band g.band (both_left (same f.band g.band) _ rq) in
     let mq = same_true f.mode g.mode (both_right (same f.band g.band) _ rq) in
     both_true _ _ (same_eq _ _ (cp ∙ cq)) (both_true _ _ (same_eq _ _ (bp ∙ bq)) (same_eq _ _ (mp ∙ mq)))
+
+not_no : (b : Bool) → not b ≡ false → b ≡ true
+not_no true e = refl
+not_no false e = sym e
 
 -- what passes p passes q
 any_more : (p q : ℕ → Bool) (m : ℕ) → ((j : ℕ) → j < m → p j ≡ true → q j ≡ true) → any p m ≡ true → any q m ≡ true
@@ -75,7 +79,7 @@ module _ (cs : List Contact) (es : List Entry) (hits fates : List ℕ) where
 
   counted_before : (m s : ℕ) → Counts m s ≡ false → any (λ i. both (Alike i m) (Bears i s)) m ≡ true
   unfolding counts
-  counted_before m s v = v
+  counted_before m s v = not_no (any (λ i. both (Alike i m) (Bears i s)) m) v
 
   apart : (a b c : Bool) → both a b ≡ false → both a (both b c) ≡ false
   apart true b c e = rw e refl

@@ -1,7 +1,6 @@
 -- The public call's promise is met by one answer, one table of confirmations where they are counted, and rows that agree in all that they
 -- keep. Assumes nothing.
 use mathlib.Core.Path.{◌≡◌, sym, ◌∙◌}
-use mathlib.Core.Bool.{true}
 use mathlib.Core.List.{List, []}
 use Prim.Native.Nat.{ℕ, ◌≤◌}
 use native.Mathlib.Omega.{arith}

@@ -2,7 +2,7 @@
 use mathlib.Core.Path.{◌≡◌, refl, sym, ap, ◌∙◌}
 use mathlib.Core.Bool.{Bool, true, false, not}
 use mathlib.Core.List.{List, [], ◌∷◌}
-use Prim.Native.Nat.{ℕ, zero, suc, ◌-◌, ◌≤◌, ◌<◌}
+use Prim.Native.Nat.{ℕ, zero, suc, ◌≤◌, ◌<◌}
 use native.Mathlib.Omega.{arith}
 use lib.Dec.{eqb}
 use lib.ListN.{length, get_or, length-append, get_or-append}
@@ -10,7 +10,7 @@ use lib.Seq.{get_or_at}
 use borrow.Author.Tests.{eqb-true, eqb-false, ne_eqb}
 use Rattle.text.specs.Pick.{pick, both}
 use Rattle.text.proofs.BoolLaws.{cases}
-use Rattle.chain.specs.Chain.{over, any, col}
+use Rattle.chain.specs.Chain.{any, col}
 use Rattle.chain.proofs.Chains.{over_same}
 use Rattle.contacts.specs.Contacts.{Contact, id_of, services_of}
 use Rattle.contacts.specs.Lists.{contact_at, contacts_from, contacts_of, count_of}

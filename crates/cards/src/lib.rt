@@ -1,4 +1,6 @@
 // The confirmations of a plan: once per contact and service.
+#![tactic(auto)]
+
 ghost use Rattle.std.specs.Prelude.{◌≡◌, List, [], ◌∷◌, ◌+◌, ◌*◌, ◌≤◌, ◌<◌, length, get_or};
 ghost use Rattle.text.specs.Pick.{pick};
 ghost use Rattle.chain.specs.Chain.{col};
