@@ -1,5 +1,7 @@
 // The last phases of a plan, over records that were looked up in the log: their fates, then the confirmations; and what is left of the
 // tables.
+#![tactic(auto)]
+
 ghost use Rattle.std.specs.Prelude.{◌≡◌, length, replicate};
 ghost use Rattle.plan.specs.Cards.{no_card};
 ghost use Rattle.closing.specs.Phases.{plan_read, Searched, Recorded};
