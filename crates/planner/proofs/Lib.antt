@@ -2,4 +2,3 @@ pub mod FinishLaws
 pub mod ResultLaws
 pub mod AnswerLaws
 pub mod Determined
-pub mod Values

@@ -28,7 +28,6 @@ use Rattle.index.specs.Rows as Index
 use Rattle.indexing.specs.Index.{indexed_as, index_after, count_in}
 use Rattle.indexing.proofs.BuildLaws.{indexed_listed}
 use Rattle.search.specs.Search.{Indexed}
-use Rattle.plan.specs.Plan.{Plan, planned}
 use Rattle.entries.specs.Row.{Row, no_row}
 use Rattle.entries.specs.Filled.{ReadInto, entries_read}
 use Rattle.entries.specs.Walked.{entry_rows}

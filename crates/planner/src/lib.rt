@@ -1,6 +1,8 @@
 // What an import, or a download of confirmations, would do to a log: `plan` and `plan_download` of `import.rs`, over a contact list
 // in place of a database. The phases are `indexing`, `opening`, `logged` and `closing`; each leaves nothing after a refusal, so that they
 // follow each other whatever the one before answered.
+#![tactic(auto)]
+
 ghost use Rattle.std.specs.Prelude.{◌≡◌};
 ghost use Rattle.index.specs.Contacts.{plain};
 ghost use Rattle.planner.specs.Planning.{asked, PlannedTo};
