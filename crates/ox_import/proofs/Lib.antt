@@ -1,3 +1,2 @@
 pub mod PlanAnswers
-mod Values
 pub mod Determined

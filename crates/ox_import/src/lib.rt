@@ -1,4 +1,6 @@
 // A plan of what a file would do to a log, in lent tables, and its summary. What is not said with an answer is 0.
+#![tactic(auto)]
+
 ghost use Rattle.std.specs.Prelude.{◌≡◌, length};
 ghost use Rattle.summary.specs.Summary.{answer_to, output_after};
 ghost use Rattle.index.specs.Contacts.{plain};
