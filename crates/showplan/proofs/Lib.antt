@@ -1,2 +1,1 @@
-mod LocalLaws
 pub mod PrintedLaws
