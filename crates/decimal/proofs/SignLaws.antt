@@ -45,6 +45,10 @@ module _ (s : List ℕ) (b : ℕ) (e : b ≡ get_or s 0 0) where
     without_minus h q p = simp (← e, ne_eqb b 0x2D h) (p ∙ ap above_zero q)
 
 -- the range of a signed number
+pub above_all : (n : ℕ) → 9223372036854775808 ≤ n → above_zero (Is n) ≡ Bad
+unfolding above_zero
+above_all n h = simp (le-ltb n (2 ^ 63) h)
+
 module _ (u : Unsigned) where
   pub not_above : u ≡ Not → Bad ≡ above_zero u
   unfolding above_zero

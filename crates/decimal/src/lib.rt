@@ -69,6 +69,7 @@ pub fn parse_unsigned(s: &[u8]) -> Unsigned
     }
 }
 
+#[tactic(auto, using(crate::proofs::SignLaws::not_above, crate::proofs::SignLaws::above_fits, crate::proofs::SignLaws::above_all))]
 fn above_zero(n: Unsigned) -> Signed
     ensures { result ≡ above_zero n }
 {

@@ -13,6 +13,7 @@ ghost use Rattle.hand.specs.Rows.{Placed, Inserted, put_in, numbered, laid};
 use letters::Order;
 
 // The n bytes of s from `at` on, or what there is of them.
+#[tactic(auto, using(crate::proofs::PartLaws::none_there, crate::proofs::PartLaws::all_there, crate::proofs::PartLaws::some_there))]
 pub fn part(s: &[u8], at: usize, n: usize) -> &[u8]
     ensures { result.now ≡ part s.now at n }
 {

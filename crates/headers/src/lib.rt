@@ -29,6 +29,7 @@ pub fn write_journal_header(out: &mut [u8]) -> Written
 }
 
 // A size of at most 16,777,216, or one more.
+#[tactic(auto, using(crate::proofs::SizeLaws::cap_small, crate::proofs::SizeLaws::cap_large))]
 pub fn cap(n: usize) -> usize
     ensures value { result ≡ capped n }
     ensures upper_bound { result ≤ 16777217 }

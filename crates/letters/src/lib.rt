@@ -59,6 +59,7 @@ pub fn same_raised(a: &[u8], b: &[u8]) -> bool
 }
 
 // The byte order of the two in capitals.
+#[tactic(auto, using(crate::proofs::OrderLaws::second_ended, crate::proofs::OrderLaws::at_below, crate::proofs::OrderLaws::at_above, crate::proofs::OrderLaws::at_level, crate::proofs::OrderLaws::first_ended, crate::proofs::OrderLaws::both_ended))]
 pub fn order_raised(a: &[u8], b: &[u8]) -> Order
     ensures { result ≡ order_raised a.now b.now }
 {

@@ -5,6 +5,7 @@ ghost use Rattle.times.specs.Window.{limit_of, apart, is_within};
 use super::Moment;
 
 // One more than the window, and 0 where it is below zero: a distance is within the window exactly if it is below this.
+#[tactic(auto, using(crate::proofs::WindowLaws::below_zero_lem, crate::proofs::WindowLaws::casts, crate::proofs::WindowLaws::adds, crate::proofs::WindowLaws::limit_is))]
 pub fn limit_of(window: i64) -> u64
     ensures { result ≡ limit_of window }
 {
@@ -15,6 +16,7 @@ pub fn limit_of(window: i64) -> u64
 }
 
 // How far apart two numbers are.
+#[tactic(auto, using(crate::proofs::WindowLaws::before, crate::proofs::WindowLaws::after))]
 pub fn distance(a: u64, b: u64) -> u64
     ensures { result ≡ apart a b }
 {
