@@ -5,8 +5,8 @@
 #   edit: LABEL                      its name in docs/PROMISES.md
 #   lost: FUNCTION [GOAL]            what has to fail by itself: a function of the crate (behind its module or type, as `modes::parent_of_key`), or a
 #   lost: proofs/FILE.antt [LEMMA]   file of its specs/ or proofs/; behind it, where others of the edits that are tried together fail there too, the
-#                                    fact that is missing for this one: a goal as the check names it (`returns`, `loop-i-again`, `bounds-s-i`), or a
-#                                    lemma, a definition or an example of the file
+#                                    fact that is missing for this one: a goal as the check names it (`returns-in-Made`, `loop-i-preserved`; with
+#                                    `-clause-NAME` behind it one clause, without it any of them), or a lemma, a definition or an example of the file
 # and then, as `rt` reads it, the file, the line that is there and the wrong one. (`rt` says of the lines `edit:` and `lost:` that they are not read,
 # which is so.)
 #   A function is lost where a fact is missing in its own proof: an answer or an invariant of proofs/FUNCTION/ is refused, or `search` finds no
@@ -23,7 +23,7 @@ function fail(what) { print what; failed++ }
 # each word of a line that stands between grave accents, as facts of that place
 function keep_facts(place, line,    part, n, i) {
     n = split(line, part, "`")
-    for (i = 2; i <= n; i += 2) open[place " " part[i]] = 1
+    for (i = 2; i <= n; i += 2) { open[place " " part[i]] = 1; sub(/-clause-.*/, "", part[i]); open[place " " part[i]] = 1 }
     open[place] = 1
 }
 # what the check said of the try: the facts that are missing, by file and by function, and which proofs do not fit
@@ -57,7 +57,11 @@ function read_log(log_file,    line, at, file, fact, word, pending, verdict) {
         if (fact ~ /was not admitted/) continue
         if (fact ~ /can be named from here|has no field|has no `|is not in scope|is no name|not yet determined/) { unfit[file] = 1; continue }
         lost[file] = 1
-        if (fact ~ /^`[^`]*`: /) { sub(/^`/, "", fact); sub(/`: .*/, "", fact); lost[file " " fact] = 1 }
+        if (fact !~ /^`[^`]*`: /) continue
+        sub(/^`/, "", fact); sub(/`: .*/, "", fact)
+        lost[file " " fact] = 1
+        # one clause of several
+        if (sub(/-clause-.*/, "", fact)) lost[file " " fact] = 1
     }
     close(log_file)
     return verdict

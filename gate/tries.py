@@ -164,7 +164,7 @@ def try_all(given, cache, room, only):
     for it in threads:
         it.join()
     for what, log in sorted(told.items()):
-        print(what + log)
+        print(what + log, flush=True)
     print(f"tries: {count} of {len(told)} files were tried in this run", file=sys.stderr)
 
 
