@@ -101,6 +101,13 @@ staticlib() {
     kit_tools
     rm -rf "$made" "$made.new"
     mkdir -p "$archive"
+    # what was built on this machine of the same sources by the same kit
+    kept=$cache/library/$(sha256sum <"$out/BUILT" | cut -c 1-32)
+    if [ -f "$kept/liboxbreathe.a" ] && (cd "$kept" && sha256sum --check --quiet liboxbreathe.a.sha256); then
+        cp "$kept/liboxbreathe.a" "$kept/liboxbreathe.a.sha256" "$archive/"
+        cp "$out/BUILT" "$archive/BUILT"
+        return 0
+    fi
     areas=$(sed -n 's/^\(ox_[a-z_]*\) staticlib:.*/\1/p' "$root/crates.txt")
     # a check takes up to 4 GB
     lanes=$(awk -v most="$(nproc)" '/^MemAvailable/ {n = int($2 / 4000000); print n < 1 ? 1 : n < most ? n : most}' /proc/meminfo)
@@ -122,6 +129,10 @@ staticlib() {
     cp "$out/BUILT" "$archive/BUILT"
     mv "$made.new" "$made"
     (cd "$archive" && sha256sum liboxbreathe.a >liboxbreathe.a.sha256)
+    mkdir -p "$kept.new"
+    cp "$made" "$made.sha256" "$kept.new/"
+    rm -rf "$kept"
+    mv "$kept.new" "$kept"
 }
 # area NAME: one of them, in its lane
 area() {
