@@ -12,7 +12,7 @@ help:
 	@echo '  make uninstall PREFIX=/usr/local    takes them away                       at once'
 	@echo '  make crates                         what cargo needs in host/             5 s, once'
 	@echo 'With the kit of Rattle:'
-	@echo '  make test                           every proof and every test            half an hour'
+	@echo '  make test                           every proof and every test            an hour, then minutes'
 	@echo '  make library                        the proved library, built anew        10 min'
 	@echo '  make dist                           the same, into dist/                  10 min'
 	@echo '  make compare                        every comparison at its full count    hours'
