@@ -1,4 +1,7 @@
 -- The reading agrees with the grammar. Assumes nothing.
+use Rattle.std.specs.Prelude.{Some, Result, Ok, Err}
+use Rattle.tags.specs.declared.Tag.TheVariants.{End, Eof, Eoh, Eor, Field}
+use Rattle.tags.specs.declared.Tag.{Tag}
 use mathlib.Core.Path.{◌≡◌, refl, sym, ap, ◌∙◌}
 use mathlib.Core.List.{List, [], ◌∷◌, ◌++◌, map, append-nil}
 use Prim.Native.Nat.{ℕ, ◌+◌, ◌≤◌, ◌<◌}
@@ -9,13 +12,10 @@ use Rattle.text.specs.Utf8.{Utf8}
 use Rattle.text.proofs.RunLaws.{Onward, run_step}
 use Rattle.letters.specs.Capitals.{capitals}
 use Rattle.decimal.specs.Decimal.{unsigned_of}
-use Rattle.decimal.specs.declared.Unsigned.TheVariants.{Is}
 use Rattle.refusals.specs.declared.Refusal.{Refusal}
 use Rattle.tags.specs.Tags.{colon, kind_of, by_kind, tag_at, name_place, name_length}
 use Rattle.tags.specs.Ahead.{Ahead}
 use Rattle.tags.specs.declared.Kind.TheVariants.{EndOfHeader, EndOfRecord, EndOfFile, FieldName}
-use Rattle.tags.specs.declared.Tag.{Tag}
-use Rattle.tags.specs.declared.Tag.TheVariants.{End, Eoh, Eor, Eof, Field, Refused}
 use Rattle.tags.proofs.AheadLaws.{ahead}
 use Rattle.adif.specs.Records.{Item, eoh, eor, field, Outcome, records, Turn, on, no, then, act, Ending, meaning}
 use Rattle.adif.specs.Grammar
@@ -35,18 +35,18 @@ follow_onto k next (no w) = refl
 
 -- one step of the run
 module _ (s : List ℕ) (room : ℕ) where
-  by_on : (at : ℕ) (hand : List Row) (done : List (List Row)) (t : Tag) → Ahead s at t → Onward (length s) at (read_by s room hand done t)
-  by_on at hand done End p = tt
-  by_on at hand done Eof p = tt
-  by_on at hand done (Eoh next) p = p
-  by_on at hand done (Eor i next) p = onto_on (length s) at next p.0 p.1 (act (rows s i) room hand done eor)
-  by_on at hand done (Field i a k v n) p = onto_on (length s) at (v + n) p.0 p.1 (act (rows s i) room hand done (field (a ∷ k ∷ v ∷ n ∷ [])))
-  by_on at hand done (Refused why) p = tt
+  by_on : (at : ℕ) (hand : List Row) (done : List (List Row)) (t : Result Tag Refusal) → Ahead s at t → Onward (length s) at (read_by s room hand done t)
+  by_on at hand done (Ok End) p = tt
+  by_on at hand done (Ok Eof) p = tt
+  by_on at hand done (Ok (Eoh next)) p = p
+  by_on at hand done (Ok (Eor i next)) p = onto_on (length s) at next p.0 p.1 (act (rows s i) room hand done eor)
+  by_on at hand done (Ok (Field i a k v n)) p = onto_on (length s) at (v + n) p.0 p.1 (act (rows s i) room hand done (field (a ∷ k ∷ v ∷ n ∷ [])))
+  by_on at hand done (Err why) p = tt
 
   pub forward : (at : ℕ) (st : State) → Onward (length s) at (read_by s room st.0 st.1 (tag_at s at))
   forward at st = by_on at st.0 st.1 (tag_at s at) (ahead s at)
 
-  pub turn : (at : ℕ) (st : State) (t : Tag) → tag_at s at ≡ t → read_run s room at st ≡ follow (read_run s room) (read_by s room st.0 st.1 t)
+  pub turn : (at : ℕ) (st : State) (t : Result Tag Refusal) → tag_at s at ≡ t → read_run s room at st ≡ follow (read_run s room) (read_by s room st.0 st.1 t)
   turn at st t e =
       run_step (λ a x. read_by s room x.0 x.1 (tag_at s a)) (records []) (length s) forward at st
       ∙ rw e
@@ -82,7 +82,7 @@ module _ (s : List ℕ) (room : ℕ) (u : Utf8 s) where
     named : capitals (part s (name_place (TagSays.inner s at t rest U) t) (name_length t)) ≡ capitals (trimmed n)
     named = ap capitals (TagSays.name_is s at t rest U n (colon ∷ z.more) (TagSays.first s at t rest U n l z k) z.is)
 
-    pub row_is : (v more : List ℕ) → unsigned_of (trimmed l) ≡ Is (length v) → rest ≡ v ++ more
+    pub row_is : (v more : List ℕ) → unsigned_of (trimmed l) ≡ Some (length v) → rest ≡ v ++ more
         → φ (row_at at t rest U v) ≡ record { name = capitals (trimmed n); value = v }
     unfolding row_name row_value
     row_is v more g f = rw (named, TagSays.value_is s at t rest U n l z k v more g f)
@@ -91,7 +91,7 @@ module _ (s : List ℕ) (room : ℕ) (u : Utf8 s) where
   pub agree : {text : List ℕ} {is : Items} {e : Ending Why} → Says text is e → (at : ℕ) → drop at s ≡ text
       → (hand : List Row) (done : List (List Row)) → map_outcome φ ψ (read_run s room at (hand, done)) ≡ told hand done is e
   unfolding by_kind
-  agree (over w) at q hand done = rw (turn s room at (hand, done) End (TagSays.tag_none s at (rw q w))) (finish_map φ ψ (rows s (length s)) plain (same (length s)) room hand done)
+  agree (over w) at q hand done = rw (turn s room at (hand, done) (Ok End) (TagSays.tag_none s at (rw q w))) (finish_map φ ψ (rows s (length s)) plain (same (length s)) room hand done)
   agree (eof_tag {t = t} {rest = rest} {n = n} T c k) at q hand done =
       let U : Tagged (drop at s) t rest = rw q T in
       rw (turn s room at (hand, done) _ (TagSays.by_name s at t rest U n EndOfFile c k)) (finish_map φ ψ (rows s (length s)) plain (same (length s)) room hand done)

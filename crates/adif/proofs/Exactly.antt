@@ -1,4 +1,5 @@
 -- The reading accepts exactly the texts that the grammar lets through within the limits, with the same records. Assumes nothing.
+use Rattle.std.specs.Prelude.{⊤, Result, Ok, Err}
 use mathlib.Core.Path.{◌≡◌, refl, sym, ◌∙◌}
 use mathlib.Core.Bool.{Bool, true, false}
 use mathlib.Core.List.{List, [], ◌∷◌, map}
@@ -14,8 +15,6 @@ use Rattle.text.proofs.Utf8Laws.{char_within}
 use Rattle.refusals.specs.Refusals.{of_text}
 use Rattle.refusals.specs.declared.Refusal.{Refusal}
 use Rattle.refusals.specs.declared.Refusal.TheVariants.{TooLong, NotUtf8}
-use Rattle.refusals.specs.declared.Verdict.{Verdict}
-use Rattle.refusals.specs.declared.Verdict.TheVariants.{Accepted, Refused}
 use Rattle.adif.specs.Records.{Outcome, records, refused, Turn, on, no, then, total, act, Ending, whole, fault, meaning, plainly}
 use Rattle.adif.specs.Grammar.{Field, Why, plain, Items, Says}
 use Rattle.adif.specs.Limits.{Names256, AllAscending}
@@ -45,7 +44,7 @@ stuck room w rs hand done (i ∷ is) p = by (act plain room hand done i) p (λ h
     by (no v) p k = never v rs _ refl p
 
 -- what is no longer than 16,777,216 bytes and UTF-8 is refused neither with 1 nor with 2
-pub fit : (s : List ℕ) → length s ≤ 16777216 → Utf8 s → of_text s ≡ Accepted
+pub fit : (s : List ℕ) → length s ≤ 16777216 → Utf8 s → of_text s ≡ Ok tt
 unfolding of_text
 fit s l u = simp (le-ltb 16777216 (length s) l, u, le-ltb (length s) (length s) (omega arith))
 
@@ -54,37 +53,38 @@ module _ (s : List ℕ) where
   unfolding valid_up_to
   short = lead_le char_len char_within s
 
-  pub is_utf8 : of_text s ≡ Accepted → Utf8 s
+  pub is_utf8 : of_text s ≡ Ok tt → Utf8 s
   unfolding of_text
   is_utf8 e = by (ltb 16777216 (length s)) (ltb (valid_up_to s) (length s)) refl e
     where
-      no_text : (w : Refusal) → Refused w ≡ Accepted → ⊥
+      no_text : (w : Refusal) → ◌≡◌ {A = Result ⊤ Refusal} (Err w) (Ok tt) → ⊥
       no_text w p = let z : ◌≡◌ {A = ℕ} 0 1 = cc in omega arith
 
       by : (a b : Bool) → ltb (valid_up_to s) (length s) ≡ b
-          → pick a (Refused TooLong) (pick b (Refused (NotUtf8 (valid_up_to s))) Accepted) ≡ Accepted → Utf8 s
+          → ◌≡◌ {A = Result ⊤ Refusal} (pick a (Err TooLong) (pick b (Err (NotUtf8 (valid_up_to s))) (Ok tt))) (Ok tt) → Utf8 s
       by true b q p = absurd (no_text TooLong p)
       by false true q p = absurd (no_text (NotUtf8 (valid_up_to s)) p)
       by false false q p = omega (arith, ltb-false (valid_up_to s) (length s) q, short)
 
-  pub fit_length : of_text s ≡ Accepted → length s ≤ 16777216
+  pub fit_length : of_text s ≡ Ok tt → length s ≤ 16777216
   unfolding of_text
   fit_length e = by (ltb 16777216 (length s)) refl e
     where
-      by : (a : Bool) → ltb 16777216 (length s) ≡ a → pick a (Refused TooLong) (pick (ltb (valid_up_to s) (length s)) (Refused (NotUtf8 (valid_up_to s))) Accepted) ≡ Accepted
+      by : (a : Bool) → ltb 16777216 (length s) ≡ a
+          → ◌≡◌ {A = Result ⊤ Refusal} (pick a (Err TooLong) (pick (ltb (valid_up_to s) (length s)) (Err (NotUtf8 (valid_up_to s))) (Ok tt))) (Ok tt)
           → length s ≤ 16777216
       by true q p = absurd (let z : ◌≡◌ {A = ℕ} 0 1 = cc in omega arith)
       by false q p = ltb-false 16777216 (length s) q
 
   module _ (room : ℕ) where
     -- what is accepted was neither too long nor anything but UTF-8
-    read_text_lem : (rows : List (List Row)) → read_text s room ≡ records rows → (of_text s ≡ Accepted) × (read_tags s room ≡ records rows)
+    read_text_lem : (rows : List (List Row)) → read_text s room ≡ records rows → (of_text s ≡ Ok tt) × (read_tags s room ≡ records rows)
     unfolding read_text
     read_text_lem rows e = by (of_text s) refl e
       where
-        by : (v : Verdict) → of_text s ≡ v → accepted v (read_tags s room) ≡ records rows → (of_text s ≡ Accepted) × (read_tags s room ≡ records rows)
-        by Accepted p q = (p, q)
-        by (Refused w) p q = absurd (never w rows _ refl q)
+        by : (v : Result ⊤ Refusal) → of_text s ≡ v → accepted v (read_tags s room) ≡ records rows → (of_text s ≡ Ok tt) × (read_tags s room ≡ records rows)
+        by (Ok tt) p q = (p, q)
+        by (Err w) p q = absurd (never w rows _ refl q)
 
     abbrev Read-as : List (List Row) → Type 0
     Read-as rows = (is : Items) × Says s is whole × (map (map (field_of s)) rows ≡ made is)

@@ -1,5 +1,7 @@
 -- Records of rows and records of the fields that the rows stand for: what is made of the one is made of the other. φ takes a field to
 -- the field that it stands for, ψ a refusal to what it tells. Assumes nothing.
+use Rattle.std.specs.declared.cmp.Ordering.{Ordering}
+use Rattle.std.specs.declared.cmp.Ordering.TheVariants.{Less, Equal, Greater}
 use mathlib.Core.Path.{◌≡◌, refl, ap, ◌∙◌}
 use mathlib.Core.Bool.{Bool, true, false}
 use mathlib.Core.List.{List, [], ◌∷◌, map, map-append}
@@ -7,8 +9,6 @@ use Prim.Native.Nat.{ℕ}
 use lib.ListN.{length-map}
 use Rattle.text.specs.Pick.{pick}
 use Rattle.letters.specs.Order.{order}
-use Rattle.letters.specs.declared.Order.{Order}
-use Rattle.letters.specs.declared.Order.TheVariants.{Less, Equal, Greater}
 use Rattle.adif.specs.Records.{Fields, Item, eoh, eor, field, Outcome, records, refused, Turn, on, no, then, total, close, finish, placed, put, act}
 
 pub total_map : {F G : Type 0} (f : F → G) (rs : List (List F)) → total (map (map f) rs) ≡ total rs
@@ -34,7 +34,7 @@ module _ {F G W X : Type 0} (φ : F → G) (ψ : W → X) where
   then_map (on h d) k k' e = e h d
   then_map (no w) k k' e = refl
 
-  placed_map : (o : Order) (f x : F) (xs rest : List F) → map φ (placed o f x xs rest) ≡ placed o (φ f) (φ x) (map φ xs) (map φ rest)
+  placed_map : (o : Ordering) (f x : F) (xs rest : List F) → map φ (placed o f x xs rest) ≡ placed o (φ f) (φ x) (map φ xs) (map φ rest)
   placed_map Less f x xs rest = refl
   placed_map Equal f x xs rest = refl
   placed_map Greater f x xs rest = refl

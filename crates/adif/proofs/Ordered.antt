@@ -1,19 +1,19 @@
 -- A field that joins a record keeps the names in strict byte order, so each name stands once; hence every record that is read is in that
 -- order. Assumes nothing.
+use Rattle.std.specs.declared.cmp.Ordering.{Ordering}
+use Rattle.std.specs.declared.cmp.Ordering.TheVariants.{Less, Equal, Greater}
 use mathlib.Core.Path.{◌≡◌, refl}
 use mathlib.Core.Bool.{Bool, true, false}
 use mathlib.Core.List.{List, [], ◌∷◌}
 use Prim.Native.Nat.{ℕ}
 use Rattle.letters.specs.Order.{order}
-use Rattle.letters.specs.declared.Order.{Order}
-use Rattle.letters.specs.declared.Order.TheVariants.{Less, Equal, Greater}
 use Rattle.letters.proofs.OrderLaws.{order_equal, order_turn}
 use Rattle.adif.specs.Records.{Item, eoh, eor, field, placed, put, last, plainly}
 use Rattle.adif.specs.Limits.{Before, Ascending, AllAscending}
 
 module _ {F : Type 0} (name : F → List ℕ) where
   -- what stands before the fields, and before the one that joins them, stands before what comes out
-  before_placed : (x f y : F) (ys rest : List F) (o : Order) → order (name x) (name f) ≡ Less → order (name x) (name y) ≡ Less
+  before_placed : (x f y : F) (ys rest : List F) (o : Ordering) → order (name x) (name f) ≡ Less → order (name x) (name y) ≡ Less
       → Before name x (placed o f y ys rest)
   before_placed x f y ys rest Less p q = p
   before_placed x f y ys rest Equal p q = p
@@ -27,7 +27,7 @@ module _ {F : Type 0} (name : F → List ℕ) where
   before_same x f [] e b = tt
   before_same x f (y ∷ ys) e b = rw e b
 
-  ascending_placed : (f x : F) (xs : List F) (o : Order) → order (name f) (name x) ≡ o → Before name x xs → Ascending name xs → Ascending name (put name f xs)
+  ascending_placed : (f x : F) (xs : List F) (o : Ordering) → order (name f) (name x) ≡ o → Before name x xs → Ascending name xs → Ascending name (put name f xs)
       → Ascending name (placed o f x xs (put name f xs))
   ascending_placed f x xs Less e b s k = (e, (b, s))
   ascending_placed f x xs Equal e b s k = (before_same x f xs (order_equal (name f) (name x) e) b, s)

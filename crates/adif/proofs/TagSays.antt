@@ -1,4 +1,6 @@
 -- The tag at a place of a text (`tag_at`), by the grammar. Assumes nothing.
+use Rattle.std.specs.Prelude.{Some, None, Ok, Err}
+use Rattle.tags.specs.declared.Tag.TheVariants.{End, Field}
 use mathlib.Core.Path.{◌≡◌, refl, sym, ap, ◌∙◌}
 use mathlib.Core.Bool.{Bool, true, false}
 use mathlib.Core.List.{List, [], ◌∷◌, ◌++◌, append_assoc}
@@ -15,17 +17,15 @@ use Rattle.text.specs.Utf8.{cont, utf8, Utf8}
 use Rattle.text.specs.Space.{trim_start, trim_end, trimmed}
 use Rattle.text.proofs.SpaceLaws.{start_le, end_le}
 use Rattle.decimal.specs.Decimal.{unsigned_of}
-use Rattle.decimal.specs.declared.Unsigned.TheVariants.{Is, Not}
 use Rattle.refusals.specs.declared.Refusal.TheVariants.{UnterminatedTag, MissingLength, BadLength, TruncatedValue, NonUtf8}
 use Rattle.tags.specs.Tags.{lt, gt, colon, kind_of, colon_at, name_at, name_place, name_length, name_of, length_after, value_of, by_kind, tag_of, closed_at, open_at, tag_at}
 use Rattle.tags.specs.declared.Kind.{Kind}
 use Rattle.tags.specs.declared.Kind.TheVariants.{FieldName}
-use Rattle.tags.specs.declared.Tag.TheVariants.{End, Field, Refused}
 use Rattle.tags.proofs.ValueLaws.{value_test}
 use Rattle.adif.specs.Grammar.{Without, Cut, all, upto, Tagged, Sized}
 use Rattle.adif.proofs.Cuts.{ends_found, ends_none, drop_on, drop_past, front_found, front_none, cut_is}
 
-pub tag_none : (s : List ℕ) (at : ℕ) → Without lt (drop at s) → tag_at s at ≡ End
+pub tag_none : (s : List ℕ) (at : ℕ) → Without lt (drop at s) → tag_at s at ≡ Ok End
 unfolding tag_at open_at
 tag_none s at w = simp (ends_none s at lt w, le-ltb (at + length (drop at s)) (length s) (omega (arith, length-drop at s)))
 
@@ -38,7 +38,7 @@ module _ (s : List ℕ) (at : ℕ) (gap more : List ℕ) (w : Without lt gap) (e
   unfolding tag_at open_at
   opened = simp (ends_found s at lt gap more w e, lt-ltb (at + length gap) (length s) starts)
 
-  pub tag_unterminated : Without gt more → tag_at s at ≡ Refused (UnterminatedTag (at + length gap))
+  pub tag_unterminated : Without gt more → tag_at s at ≡ Err (UnterminatedTag (at + length gap))
   unfolding closed_at
   tag_unterminated v =
       opened
@@ -99,7 +99,7 @@ module _ (s : List ℕ) (at : ℕ) (t rest : List ℕ) (T : Tagged (drop at s) t
           let empty : [] ≡ trimmed n = rw none at (stands n tail c f) in
           rw none empty
 
-  pub tag_missing : Without colon t → kind_of (trimmed t) ≡ FieldName → tag_at s at ≡ Refused (MissingLength start (name_place inner t) (name_length t))
+  pub tag_missing : Without colon t → kind_of (trimmed t) ≡ FieldName → tag_at s at ≡ Err (MissingLength start (name_place inner t) (name_length t))
   unfolding by_kind colon_at
   tag_missing w e = by_name t FieldName (all w) e ∙ simp (front_none colon t w, le-ltb (length t) (length t) (omega arith))
 
@@ -125,15 +125,15 @@ module _ (s : List ℕ) (at : ℕ) (t rest : List ℕ) (T : Tagged (drop at s) t
     unfolding by_kind
     by_length = by_name n FieldName first e ∙ simp (colon_is, lt-ltb (length n) (length t) within, length_is)
 
-    pub tag_bad : unsigned_of (trimmed l) ≡ Not → tag_at s at ≡ Refused (BadLength start (name_place inner t) (name_length t))
+    pub tag_bad : unsigned_of (trimmed l) ≡ None → tag_at s at ≡ Err (BadLength start (name_place inner t) (name_length t))
     unfolding value_of
     tag_bad q = by_length ∙ rw q
 
-    pub tag_truncated : (k : ℕ) → unsigned_of (trimmed l) ≡ Is k → length rest < k → tag_at s at ≡ Refused (TruncatedValue start (name_place inner t) (name_length t) k (length rest))
+    pub tag_truncated : (k : ℕ) → unsigned_of (trimmed l) ≡ Some k → length rest < k → tag_at s at ≡ Err (TruncatedValue start (name_place inner t) (name_length t) k (length rest))
     unfolding value_of
     tag_truncated k q h = by_length ∙ simp (q, left, lt-leb k (length rest) h)
 
-    module _ (v more : List ℕ) (q : unsigned_of (trimmed l) ≡ Is (length v)) (f : rest ≡ v ++ more) where
+    module _ (v more : List ℕ) (q : unsigned_of (trimmed l) ≡ Some (length v)) (f : rest ≡ v ++ more) where
       pub drop_more : drop (next + length v) s ≡ more
       drop_more = drop_on s next v more (length v) (drop_next ∙ f) refl
 
@@ -143,7 +143,7 @@ module _ (s : List ℕ) (at : ℕ) (t rest : List ℕ) (T : Tagged (drop at s) t
       pub value_is : take (length v) (drop next s) ≡ v
       value_is = rw (drop_next, f) (take_at v more (length v) refl)
 
-      by_byte : tag_at s at ≡ pick (cont (get_or s (next + length v) 0)) (Refused (NonUtf8 start (name_place inner t) (name_length t))) (Field start (name_place inner t) (name_length t) next (length v))
+      by_byte : tag_at s at ≡ pick (cont (get_or s (next + length v) 0)) (Err (NonUtf8 start (name_place inner t) (name_length t))) (Ok (Field start (name_place inner t) (name_length t) next (length v)))
       unfolding value_of
       by_byte = by_length ∙ simp (q, left, le-leb (length v) (length rest) (omega (arith, ap length f, length-append v more)))
 
@@ -151,16 +151,16 @@ module _ (s : List ℕ) (at : ℕ) (t rest : List ℕ) (T : Tagged (drop at s) t
         test : utf8 v ≡ pick (cont (get_or s (next + length v) 0)) false true
         test = sym (ap utf8 value_is) ∙ value_test s u (inner + length t) (omega (arith, next_in)) closing (length v) more_in
 
-        pub tag_torn : utf8 v ≡ false → tag_at s at ≡ Refused (NonUtf8 start (name_place inner t) (name_length t))
+        pub tag_torn : utf8 v ≡ false → tag_at s at ≡ Err (NonUtf8 start (name_place inner t) (name_length t))
         tag_torn c = by_byte ∙ by (cont (get_or s (next + length v) 0)) (sym test ∙ c)
           where
-            by : (b : Bool) → pick b false true ≡ false → pick b (Refused (NonUtf8 start (name_place inner t) (name_length t))) (Field start (name_place inner t) (name_length t) next (length v)) ≡ Refused (NonUtf8 start (name_place inner t) (name_length t))
+            by : (b : Bool) → pick b false true ≡ false → pick b (Err (NonUtf8 start (name_place inner t) (name_length t))) (Ok (Field start (name_place inner t) (name_length t) next (length v))) ≡ Err (NonUtf8 start (name_place inner t) (name_length t))
             by true p = refl
             by false p = absurd (let y : ◌≡◌ {A = ℕ} 0 1 = cc in omega arith)
 
-        pub tag_field : utf8 v ≡ true → tag_at s at ≡ Field start (name_place inner t) (name_length t) next (length v)
+        pub tag_field : utf8 v ≡ true → tag_at s at ≡ Ok (Field start (name_place inner t) (name_length t) next (length v))
         tag_field c = by_byte ∙ by (cont (get_or s (next + length v) 0)) (sym test ∙ c)
           where
-            by : (b : Bool) → pick b false true ≡ true → pick b (Refused (NonUtf8 start (name_place inner t) (name_length t))) (Field start (name_place inner t) (name_length t) next (length v)) ≡ Field start (name_place inner t) (name_length t) next (length v)
+            by : (b : Bool) → pick b false true ≡ true → pick b (Err (NonUtf8 start (name_place inner t) (name_length t))) (Ok (Field start (name_place inner t) (name_length t) next (length v))) ≡ Ok (Field start (name_place inner t) (name_length t) next (length v))
             by true p = absurd (let y : ◌≡◌ {A = ℕ} 0 1 = cc in omega arith)
             by false p = refl

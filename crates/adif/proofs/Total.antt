@@ -1,4 +1,5 @@
 -- Every text says something by the grammar. Assumes nothing.
+use Rattle.std.specs.Prelude.{Option, Some, None}
 use mathlib.Core.Path.{◌≡◌, refl, sym, ap, ◌∙◌}
 use mathlib.Core.Bool.{Bool, true, false}
 use mathlib.Core.List.{List, [], ◌∷◌, ◌++◌}
@@ -13,8 +14,6 @@ use Rattle.text.specs.Space.{trimmed}
 use Rattle.text.specs.Utf8.{utf8}
 use Rattle.decimal.specs.Decimal.{unsigned_of}
 use Rattle.tags.specs.Tags.{lt, gt, colon, kind_of}
-use Rattle.decimal.specs.declared.Unsigned.{Unsigned}
-use Rattle.decimal.specs.declared.Unsigned.TheVariants.{Is, Not}
 use Rattle.tags.specs.declared.Kind.{Kind}
 use Rattle.tags.specs.declared.Kind.TheVariants.{EndOfHeader, EndOfRecord, EndOfFile, FieldName}
 use Rattle.adif.specs.Records.{Ending}
@@ -30,21 +29,21 @@ module _ (text t rest : List ℕ) (T : Tagged text t rest) where
 
   module _ (go : (r : List ℕ) → length r < length text → Said r) where
     module _ (n l : List ℕ) (z : Sized t n l) (k : kind_of (trimmed n) ≡ FieldName) where
-      value : (v more : List ℕ) → unsigned_of (trimmed l) ≡ Is (length v) → rest ≡ v ++ more → (c : Bool) → utf8 v ≡ c → Said text
+      value : (v more : List ℕ) → unsigned_of (trimmed l) ≡ Some (length v) → rest ≡ v ++ more → (c : Bool) → utf8 v ≡ c → Said text
       value v more g f false h = ([], _, torn v more T z k g f h)
       value v more g f true h =
           let (is, e, w) = go more (omega (arith, shorter, ap length f, length-append v more)) in
           (_, e, field_tag v more T z k g f h w)
 
-      enough : (m : ℕ) → unsigned_of (trimmed l) ≡ Is m → (c : Bool) → leb m (length rest) ≡ c → Said text
+      enough : (m : ℕ) → unsigned_of (trimmed l) ≡ Some m → (c : Bool) → leb m (length rest) ≡ c → Said text
       enough m g true h =
           let q : length (take m rest) ≡ m = length-take-le m rest (leb-true m (length rest) h) in
           value (take m rest) (drop m rest) (rw q g) (sym (take-append-drop m rest)) (utf8 (take m rest)) refl
       enough m g false h = ([], _, truncated T z k g (leb-false m (length rest) h))
 
-      sized : (num : Unsigned) → unsigned_of (trimmed l) ≡ num → Said text
-      sized Not g = ([], _, bad T z k g)
-      sized (Is m) g = enough m g (leb m (length rest)) refl
+      sized : (num : Option ℕ) → unsigned_of (trimmed l) ≡ num → Said text
+      sized None g = ([], _, bad T z k g)
+      sized (Some m) g = enough m g (leb m (length rest)) refl
 
     field_of : (n : List ℕ) → Cut colon t n → kind_of (trimmed n) ≡ FieldName → Said text
     field_of n (all w) k = ([], _, missing T w k)

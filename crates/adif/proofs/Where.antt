@@ -1,4 +1,6 @@
 -- Where in a text a refusal is met. Assumes nothing.
+use Rattle.std.specs.Prelude.{⊤, Result, Ok, Err}
+use Rattle.tags.specs.declared.Tag.TheVariants.{End}
 use mathlib.Core.Path.{◌≡◌, refl, sym, ap, ◌∙◌}
 use mathlib.Core.Bool.{Bool, true, false}
 use mathlib.Core.List.{List, [], ◌∷◌, ◌++◌, map, append_assoc, append-nil}
@@ -14,11 +16,8 @@ use Rattle.letters.specs.Capitals.{capitals}
 use Rattle.refusals.specs.Refusals.{number_of, place_of, of_text}
 use Rattle.refusals.specs.declared.Refusal.{Refusal}
 use Rattle.refusals.specs.declared.Refusal.TheVariants.{ManyNames, ManyRecords, FewRows}
-use Rattle.refusals.specs.declared.Verdict.{Verdict}
-use Rattle.refusals.specs.declared.Verdict.TheVariants.{Accepted, Refused as RefusedText}
 use Rattle.tags.specs.Tags.{lt, gt, by_kind, tag_at}
 use Rattle.tags.specs.declared.Kind.TheVariants.{EndOfHeader, EndOfRecord, EndOfFile}
-use Rattle.tags.specs.declared.Tag.TheVariants.{End, Refused}
 use Rattle.adif.specs.Records.{Item, eoh, eor, field, Ending, whole, fault, Outcome, records, refused, Turn, on, no, then, total, put, close, finish, act}
 use Rattle.adif.specs.Grammar.{Field, Why, plain, Items, Without, Tagged, Says, over, eof_tag, eoh_tag, eor_tag, field_tag, unterminated, missing, bad, truncated, torn}
 use Rattle.adif.specs.Reading.{Row, RowsRead, row_name, rows, onto, accepted, read_run, read_tags, read_text}
@@ -168,9 +167,9 @@ module _ (s : List ℕ) (room : ℕ) (u : Utf8 s) where
   -- at a tag that is refused
   broken : (text gap from : List ℕ) (w : Why) → Without lt gap → text ≡ gap ++ lt ∷ from → Says text [] (fault w) → Says (lt ∷ from) [] (fault w)
       → (at : ℕ) → drop at s ≡ text → (hand : List Row) (done : List (List Row)) (why : Refusal) → read_run s room at (hand, done) ≡ refused why
-      → (v : Refusal) → tag_at s at ≡ Refused v → place_of v ≡ at + length gap → Found text at hand done why
+      → (v : Refusal) → tag_at s at ≡ Err v → place_of v ≡ at + length gap → Found text at hand done why
   broken text gap from w c f d d' at q hand done why p v e l =
-      let z : why ≡ v = refused_is why v (sym p ∙ turn s room at (hand, done) (Refused v) e) in
+      let z : why ≡ v = refused_is why v (sym p ∙ turn s room at (hand, done) (Err v) e) in
       let y : ψ why ≡ w = refused_is {F = Field} (ψ why) w (sym (ap (map_outcome φ ψ) p) ∙ agree s room u d at q hand done) in
       record {
         before = gap;
@@ -241,7 +240,7 @@ module _ (s : List ℕ) (room : ℕ) (u : Utf8 s) where
       → (hand : List Row) (done : List (List Row)) (why : Refusal) → read_run s room at (hand, done) ≡ refused why → Found text at hand done why
   unfolding by_kind
   locate (over {text = text} w) at q l hand done why p =
-      ended text (over w) at q l hand done why (sym (turn s room at (hand, done) End (TagSays.tag_none s at (rw q w))) ∙ p)
+      ended text (over w) at q l hand done why (sym (turn s room at (hand, done) (Ok End) (TagSays.tag_none s at (rw q w))) ∙ p)
   locate (eof_tag {text = text} {t = t} {rest = rest} {n = n} T c k) at q l hand done why p =
       let U : Tagged (drop at s) t rest = from_here at text t rest q T in
       ended text (eof_tag T c k) at q l hand done why (sym (turn s room at (hand, done) _ (TagSays.by_name s at t rest U n EndOfFile c k)) ∙ p)
@@ -290,11 +289,11 @@ module _ (s : List ℕ) (room : ℕ) (u : Utf8 s) where
       broken text T.gap (t ++ gt ∷ rest) _ T.comment T.is (torn v more T z k g f c) (torn v more (alone text t rest T) z k g f c) at q hand done why p _ (TagSays.tag_torn s at t rest U n len z k v more g f u c) refl
 
 -- ---- the whole text: 1 and 2 come first
-abbrev Early : Verdict → Type 0
-Early Accepted = Unit {0}
-Early (RefusedText w) = number_of w ≤ 2
+abbrev Early : Result ⊤ Refusal → Type 0
+Early (Ok tt) = Unit {0}
+Early (Err w) = number_of w ≤ 2
 
-early_pick : (b : Bool) (x y : Verdict) → Early x → Early y → Early (pick b x y)
+early_pick : (b : Bool) (x y : Result ⊤ Refusal) → Early x → Early y → Early (pick b x y)
 early_pick true x y p q = p
 early_pick false x y p q = q
 
@@ -306,12 +305,12 @@ pub placed_where_met : PlacedWhereMet
 unfolding read_text read_tags
 placed_where_met s room why e h = by (of_text s) refl e
   where
-    by : (v : Verdict) → of_text s ≡ v → accepted v (read_tags s room) ≡ refused why → Met s room (told_by s why) (place_of why)
-    by (RefusedText w) p q =
+    by : (v : Result ⊤ Refusal) → of_text s ≡ v → accepted v (read_tags s room) ≡ refused why → Met s room (told_by s why) (place_of why)
+    by (Err w) p q =
         let z : w ≡ why = refused_is w why q in
         let first : number_of w ≤ 2 = rw p at (early s) in
         absurd (omega (arith, first, ap number_of z))
-    by Accepted p q =
+    by (Ok tt) p q =
         let (is, end, d) = says_something s in
         let F : Found s room (is_utf8 s p) s 0 [] [] why = locate s room (is_utf8 s p) d 0 refl (omega arith) [] [] why q in
         record { before = F.before; from = F.from; cut = F.cut; there = omega (arith, F.there); is = F.is; says = F.says; hand = F.to; done = F.unto; leaves = F.leaves; here = F.here }

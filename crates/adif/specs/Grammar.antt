@@ -1,10 +1,9 @@
 -- The grammar of ADIF text: what a text says, by what it is put together from.
-use Rattle.std.specs.Prelude.{◌≡◌, true, false, List, [], ◌∷◌, ◌++◌, ℕ, ◌<◌, length}
+use Rattle.std.specs.Prelude.{◌≡◌, true, false, List, [], ◌∷◌, ◌++◌, ℕ, ◌<◌, length, Some, None}
 use Rattle.text.specs.Utf8.{utf8}
 use Rattle.text.specs.Space.{trimmed}
 use Rattle.letters.specs.Capitals.{capitals}
 use Rattle.decimal.specs.Decimal.{unsigned_of}
-use Rattle.decimal.specs.declared.Unsigned.TheVariants.{Is, Not}
 use Rattle.tags.specs.Tags.{lt, gt, colon, kind_of}
 use Rattle.tags.specs.declared.Kind.TheVariants.{EndOfHeader, EndOfRecord, EndOfFile, FieldName}
 use Rattle.adif.specs.Records.{Fields, Item, eoh, eor, field, Ending, whole, fault}
@@ -69,7 +68,7 @@ pub data Says : List ℕ → Items → Ending Why → Type 0 where
       → Says rest is e → Says text (eor ∷ is) e
   -- a field: the length is that of its value, which is UTF-8
   field_tag : {text t n l rest : List ℕ} (v more : List ℕ) {is : Items} {e : Ending Why} → Tagged text t rest → Sized t n l → kind_of (trimmed n) ≡ FieldName
-      → unsigned_of (trimmed l) ≡ Is (length v) → rest ≡ v ++ more → utf8 v ≡ true
+      → unsigned_of (trimmed l) ≡ Some (length v) → rest ≡ v ++ more → utf8 v ≡ true
       → Says more is e → Says text (field (record { name = capitals (trimmed n); value = v }) ∷ is) e
   -- what is refused: 3 a tag with no ">", 4 a field with no length, 5 a length that is no number, 6 a value longer than what is left, 7 one
   -- that is not UTF-8
@@ -77,9 +76,9 @@ pub data Says : List ℕ → Items → Ending Why → Type 0 where
   missing : {text t rest : List ℕ} → Tagged text t rest → Without colon t → kind_of (trimmed t) ≡ FieldName
       → Says text [] (fault (why_of 4 (capitals (trimmed t))))
   bad : {text t rest n l : List ℕ} → Tagged text t rest → Sized t n l → kind_of (trimmed n) ≡ FieldName
-      → unsigned_of (trimmed l) ≡ Not → Says text [] (fault (why_of 5 (capitals (trimmed n))))
+      → unsigned_of (trimmed l) ≡ None → Says text [] (fault (why_of 5 (capitals (trimmed n))))
   truncated : {text t rest n l : List ℕ} {k : ℕ} → Tagged text t rest → Sized t n l → kind_of (trimmed n) ≡ FieldName
-      → unsigned_of (trimmed l) ≡ Is k → length rest < k
+      → unsigned_of (trimmed l) ≡ Some k → length rest < k
       → Says text [] (fault (record { number = 6; name = capitals (trimmed n); wanted = k; left = length rest }))
   torn : {text t rest n l : List ℕ} (v more : List ℕ) → Tagged text t rest → Sized t n l → kind_of (trimmed n) ≡ FieldName
-      → unsigned_of (trimmed l) ≡ Is (length v) → rest ≡ v ++ more → utf8 v ≡ false → Says text [] (fault (why_of 7 (capitals (trimmed n))))
+      → unsigned_of (trimmed l) ≡ Some (length v) → rest ≡ v ++ more → utf8 v ≡ false → Says text [] (fault (why_of 7 (capitals (trimmed n))))

@@ -1,7 +1,7 @@
 -- The limits within which nothing is refused that the grammar lets through; and the order of the fields of a record.
+use Rattle.std.specs.declared.cmp.Ordering.TheVariants.{Less}
 use Rattle.std.specs.Prelude.{◌≡◌, List, [], ◌∷◌, ℕ, ◌≤◌, length}
 use Rattle.letters.specs.Order.{order}
-use Rattle.letters.specs.declared.Order.TheVariants.{Less}
 use Rattle.adif.specs.Records.{Item, eoh, eor, field, put}
 
 -- no record, and no header, has more than 256 names

@@ -1,15 +1,13 @@
 -- The reading of an ADIF text, tag by tag, with places in the text for names and values.
-use Rattle.std.specs.Prelude.{List, [], ◌∷◌, ℕ, ◌+◌, length, get_or, take, drop}
+use Rattle.tags.specs.declared.Tag.TheVariants.{End, Eof, Eoh, Eor, Field}
+use Rattle.tags.specs.declared.Tag.{Tag}
+use Rattle.std.specs.Prelude.{List, [], ◌∷◌, ℕ, ◌+◌, length, get_or, take, drop, ⊤, Result, Ok, Err}
 use Rattle.text.specs.Run.{Next, go, stop, run}
 use Rattle.letters.specs.Capitals.{capitals}
 use Rattle.refusals.specs.Refusals.{of_text}
 use Rattle.refusals.specs.declared.Refusal.{Refusal}
 use Rattle.refusals.specs.declared.Refusal.TheVariants.{ManyNames, ManyRecords, FewRows}
-use Rattle.refusals.specs.declared.Verdict.{Verdict}
-use Rattle.refusals.specs.declared.Verdict.TheVariants.{Accepted, Refused as RefusedText}
 use Rattle.tags.specs.Tags.{tag_at}
-use Rattle.tags.specs.declared.Tag.{Tag}
-use Rattle.tags.specs.declared.Tag.TheVariants.{End, Eoh, Eor, Eof, Field, Refused}
 use Rattle.adif.specs.Records.{Fields, eoh, eor, field, Outcome, records, refused, Turn, on, no, act, finish}
 
 -- a row: the name's place and length, and the value's
@@ -42,13 +40,13 @@ onto next (on hand done) = go next (hand, done)
 onto next (no w) = stop (refused w)
 
 -- what the next tag makes of them. The end and an APP_LOTW_EOF tell the text's length; the header's end refuses nothing
-abbrev pub read_by : List ℕ → ℕ → List Row → List (List Row) → Tag → Next State RowsRead
-read_by s room hand done End = stop (finish (rows s (length s)) room hand done)
-read_by s room hand done Eof = stop (finish (rows s (length s)) room hand done)
-read_by s room hand done (Eoh next) = onto next (act (rows s 0) room hand done eoh)
-read_by s room hand done (Eor at next) = onto next (act (rows s at) room hand done eor)
-read_by s room hand done (Field at a k v n) = onto (v + n) (act (rows s at) room hand done (field (a ∷ k ∷ v ∷ n ∷ [])))
-read_by s room hand done (Refused w) = stop (refused w)
+abbrev pub read_by : List ℕ → ℕ → List Row → List (List Row) → Result Tag Refusal → Next State RowsRead
+read_by s room hand done (Ok End) = stop (finish (rows s (length s)) room hand done)
+read_by s room hand done (Ok Eof) = stop (finish (rows s (length s)) room hand done)
+read_by s room hand done (Ok (Eoh next)) = onto next (act (rows s 0) room hand done eoh)
+read_by s room hand done (Ok (Eor at next)) = onto next (act (rows s at) room hand done eor)
+read_by s room hand done (Ok (Field at a k v n)) = onto (v + n) (act (rows s at) room hand done (field (a ∷ k ∷ v ∷ n ∷ [])))
+read_by s room hand done (Err w) = stop (refused w)
 
 abbrev pub read_run : List ℕ → ℕ → ℕ → State → RowsRead
 read_run s room = run (λ at st. read_by s room st.0 st.1 (tag_at s at)) (records []) (length s)
@@ -57,9 +55,9 @@ read_run s room = run (λ at st. read_by s room st.0 st.1 (tag_at s at)) (record
 unfoldable pub read_tags : List ℕ → ℕ → RowsRead
 read_tags s room = read_run s room 0 ([], [])
 
-abbrev pub accepted : Verdict → RowsRead → RowsRead
-accepted Accepted r = r
-accepted (RefusedText w) r = refused w
+abbrev pub accepted : Result ⊤ Refusal → RowsRead → RowsRead
+accepted (Ok tt) r = r
+accepted (Err w) r = refused w
 
 -- 1 and 2, and then the tags
 unfoldable pub read_text : List ℕ → ℕ → RowsRead

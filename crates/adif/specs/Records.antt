@@ -1,10 +1,10 @@
 -- What the tags of an ADIF text make: records of fields. F is a field, by name and value or by their places in the text; W is what a
 -- refusal tells.
+use Rattle.std.specs.declared.cmp.Ordering.{Ordering}
+use Rattle.std.specs.declared.cmp.Ordering.TheVariants.{Less, Equal, Greater}
 use Rattle.std.specs.Prelude.{Bool, true, false, List, [], ◌∷◌, ◌++◌, ℕ, ◌+◌, length, leb, ltb}
 use Rattle.text.specs.Pick.{pick}
 use Rattle.letters.specs.Order.{order}
-use Rattle.letters.specs.declared.Order.{Order}
-use Rattle.letters.specs.declared.Order.TheVariants.{Less, Equal, Greater}
 
 -- the name of a field, in capitals; and refusals 8, 9 and 10
 pub record Fields (F W : Type 0) : Type 0 where
@@ -44,7 +44,7 @@ total [] = 0
 total (r ∷ rs) = length r + total rs
 
 -- the field before x, in the place of x, or further on, by the order of the two names
-abbrev pub placed : {F : Type 0} → Order → F → F → List F → List F → List F
+abbrev pub placed : {F : Type 0} → Ordering → F → F → List F → List F → List F
 placed Less f x xs rest = f ∷ x ∷ xs
 placed Equal f x xs rest = f ∷ xs
 placed Greater f x xs rest = x ∷ rest

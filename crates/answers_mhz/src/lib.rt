@@ -1,44 +1,39 @@
 // What the library answers to the vectors on frequencies, in their own notation.
 #![tactic(auto)]
 
-ghost use Rattle.std.specs.Prelude.{◌≤◌, length};
+ghost use Rattle.std.specs.Prelude.{◌≤◌, length, IfSome};
 
+use mhz::Hz;
 use notation::{put_byte, put_none, put_number};
 
-fn hertz(line: &[u8], a: &mut [u8], out: &mut [u8]) -> usize
-    ensures { result ≤ length out.new }
+fn put_hertz(out: &mut [u8], hz: Hz) -> Option<usize>
+    ensures { IfSome result (λ n. n ≤ length out.new) }
 {
-    let n = notation::text_at(line, 0, a);
-    let found = mhz::mhz_string_to_hz(&a[..n]);
-    match found {
-        mhz::Hz::Absent => put_none(out),
-        mhz::Hz::Is(v) => put_number(out, 0, v),
-        mhz::Hz::Outside => 0,
+    match hz {
+        Hz::Absent => put_none(out),
+        Hz::Is(v) => put_number(out, 0, v),
+        Hz::Outside => None,
     }
 }
 
-fn megahertz(line: &[u8], out: &mut [u8]) -> usize
-    ensures { result ≤ length out.new }
+fn put_megahertz(out: &mut [u8], hz: u64) -> Option<usize>
+    ensures { IfSome result (λ n. n ≤ length out.new) }
 {
-    let hz = notation::number_at(line, notation::after(line, 0, b' '));
-    let at = put_byte(out, 0, b'|');
-    let wrote = mhz::hz_to_mhz_string(hz, out, at);
-    match wrote {
-        mhz::Wrote::End(next) => put_byte(out, next, b'|'),
-        mhz::Wrote::TooHigh => 0,
-        mhz::Wrote::Short => 0,
-    }
+    let at = put_byte(out, 0, b'|')?;
+    let next = mhz::hz_to_mhz_string(hz, out, at).ok()?;
+    put_byte(out, next, b'|')
 }
 
 // The answer to the line, put at the front of out; nothing where its operation is unknown.
-pub fn answer(op: &[u8], line: &[u8], a: &mut [u8], out: &mut [u8]) -> usize
-    ensures { result ≤ length out.new }
+pub fn answer(op: &[u8], line: &[u8], a: &mut [u8], out: &mut [u8]) -> Option<usize>
+    ensures { IfSome result (λ n. n ≤ length out.new) }
 {
-    if letters::same(op, b"hertz") {
-        return hertz(line, a, out);
+    match op {
+        b"hertz" => put_hertz(out, mhz::mhz_string_to_hz(notation::text_in(line, 0, a))),
+        b"megahertz" => put_megahertz(
+            out,
+            notation::number_at(line, notation::after(line, 0, b' ')),
+        ),
+        _ => None,
     }
-    if letters::same(op, b"megahertz") {
-        return megahertz(line, out);
-    }
-    0
 }

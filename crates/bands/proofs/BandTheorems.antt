@@ -1,4 +1,5 @@
 -- The bands rise and are disjoint, so at most one holds a frequency, and it is the one that is found. Assumes nothing.
+use Rattle.std.specs.Prelude.{Some}
 use mathlib.Core.Path.{◌≡◌, refl, ap, ◌∙◌}
 use mathlib.Core.Bool.{Bool, true, false}
 use mathlib.Core.List.{List, [], ◌∷◌}
@@ -11,7 +12,6 @@ use borrow.Author.Tests.{leb-true, ltb-true, ltb-false}
 use Rattle.text.proofs.BoolLaws.{both_left, both_right}
 use Rattle.tables.specs.Table.{first_from}
 use Rattle.tables.specs.Bands.{Band, bands, holds, band_for}
-use Rattle.tables.specs.declared.Found.TheVariants.{At}
 use Rattle.tables.proofs.Tested.{all, pairs, all_at, pair_at}
 
 -- the band at k, and past the end of the table one that holds no frequency
@@ -69,22 +69,22 @@ one_band hz j k p q = by (ltb j k) (ltb k j) refl refl
 
 -- ---- and it is found
 first_is : (hz i : ℕ) (xs : List Band) (k : ℕ) → holds hz (get_or xs k no_band) ≡ true → k < length xs
-    → (j : ℕ) × ((first_from (holds hz) i xs ≡ At (i + j)) × (holds hz (get_or xs j no_band) ≡ true))
+    → (j : ℕ) × ((first_from (holds hz) i xs ≡ Some (i + j)) × (holds hz (get_or xs j no_band) ≡ true))
 first_is hz i [] k e h = absurd (omega arith)
 first_is hz i (x ∷ xs) k e h = by (holds hz x) refl k e h (λ n p q. first_is hz (suc i) xs n p q)
   where
     by : (t : Bool) → holds hz x ≡ t → (k : ℕ) → holds hz (get_or (x ∷ xs) k no_band) ≡ true → k < suc (length xs)
         → ((n : ℕ) → holds hz (get_or xs n no_band) ≡ true → n < length xs
-        → (j : ℕ) × ((first_from (holds hz) (suc i) xs ≡ At (suc i + j)) × (holds hz (get_or xs j no_band) ≡ true)))
-        → (j : ℕ) × ((first_from (holds hz) i (x ∷ xs) ≡ At (i + j)) × (holds hz (get_or (x ∷ xs) j no_band) ≡ true))
+        → (j : ℕ) × ((first_from (holds hz) (suc i) xs ≡ Some (suc i + j)) × (holds hz (get_or xs j no_band) ≡ true)))
+        → (j : ℕ) × ((first_from (holds hz) i (x ∷ xs) ≡ Some (i + j)) × (holds hz (get_or (x ∷ xs) j no_band) ≡ true))
     by true q k e h later = (0, (rw (q, add-zero) refl, q))
     by false q zero e h later = absurd (let z : ◌≡◌ {A = ℕ} 0 1 = cc in omega arith)
     by false q (suc k) e h later =
         let r = later k e (omega arith) in
         (suc r.0, (rw (q, add-suc, ← suc-add) r.1.0, r.1.1))
 
-pub band_found : (hz k : ℕ) → holds hz (band_at k) ≡ true → band_for hz ≡ At k
+pub band_found : (hz k : ℕ) → holds hz (band_at k) ≡ true → band_for hz ≡ Some k
 unfolding band_for
 band_found hz k e =
     let r = first_is hz 0 bands k e (in_table hz k e) in
-    r.1.0 ∙ ap (λ (n : ℕ). At n) (omega (arith, one_band hz r.0 k r.1.1 e))
+    r.1.0 ∙ ap (λ (n : ℕ). Some n) (omega (arith, one_band hz r.0 k r.1.1 e))

@@ -2,55 +2,35 @@
 // the band; 60m is the whole 5 MHz allocation, since only some countries have channels there.
 #![tactic(auto)]
 
-ghost use Rattle.std.specs.Prelude.{◌≡◌, true, ◌≤◌, length};
+ghost use Rattle.std.specs.Prelude.{◌≡◌, ◌≤◌, length};
 ghost use Rattle.tables.specs.Table.{first_from, is_found};
-ghost use Rattle.tables.specs.Bands.{apart, bounded, holds, band_for, band_named, every_band};
+ghost use Rattle.text.specs.Pick.{within};
+ghost use Rattle.tables.specs.Bands.{band_for, band_named, every_band};
 ghost use Rattle.tables.specs.Place.{band_place};
 
-use tables::{Found, Place, Span, places};
+use tables::{Place, Span, places};
 
-const LOW: [u64; 19] = [
-    135_700,
-    472_000,
-    1_800_000,
-    3_500_000,
-    5_060_000,
-    7_000_000,
-    10_100_000,
-    14_000_000,
-    18_068_000,
-    21_000_000,
-    24_890_000,
-    28_000_000,
-    50_000_000,
-    70_000_000,
-    144_000_000,
-    222_000_000,
-    420_000_000,
-    902_000_000,
-    1_240_000_000,
-];
-
-const HIGH: [u64; 19] = [
-    137_800,
-    479_000,
-    2_000_000,
-    4_000_000,
-    5_450_000,
-    7_300_000,
-    10_150_000,
-    14_350_000,
-    18_168_000,
-    21_450_000,
-    24_990_000,
-    29_700_000,
-    54_000_000,
-    71_000_000,
-    148_000_000,
-    225_000_000,
-    450_000_000,
-    928_000_000,
-    1_300_000_000,
+// Each band from its lowest frequency to its highest.
+const BOUNDS: [(u64, u64); 19] = [
+    (135_700, 137_800),
+    (472_000, 479_000),
+    (1_800_000, 2_000_000),
+    (3_500_000, 4_000_000),
+    (5_060_000, 5_450_000),
+    (7_000_000, 7_300_000),
+    (10_100_000, 10_150_000),
+    (14_000_000, 14_350_000),
+    (18_068_000, 18_168_000),
+    (21_000_000, 21_450_000),
+    (24_890_000, 24_990_000),
+    (28_000_000, 29_700_000),
+    (50_000_000, 54_000_000),
+    (70_000_000, 71_000_000),
+    (144_000_000, 148_000_000),
+    (222_000_000, 225_000_000),
+    (420_000_000, 450_000_000),
+    (902_000_000, 928_000_000),
+    (1_240_000_000, 1_300_000_000),
 ];
 
 // The names as keys: 1, then the bytes in capitals.
@@ -76,41 +56,31 @@ const KEYS: [u64; 19] = [
     0x1_32_33_43_4D,
 ];
 
-// The first band with low[k] <= hz <= high[k]. Bands rise, so the first that ends at hz or above decides.
-fn band_in(low: &[u64], high: &[u64], hz: u64) -> Found
-    requires { (length low.now ≡ length high.now) × (length low.now ≤ 255) × (apart high.now low.now ≡ true) }
-    ensures { result ≡ first_from (holds hz) 0 (bounded low.now high.now) }
+// The first band that holds the frequency. The table is lent, since an index into a constant lays the whole table on the stack.
+fn band_in(bounds: &[(u64, u64)], hz: u64) -> Option<u32>
+    requires { length bounds.now ≤ 255 }
+    ensures { result ≡ first_from (λ b. within hz b.0 b.1) 0 bounds.now }
 {
-    let mut i = 0;
-    while i < low.len() {
-        if hz <= high[i] {
-            if low[i] <= hz {
-                return Found::At(i as u32);
-            }
-            return Found::Nothing;
-        }
-        i += 1;
-    }
-    Found::Nothing
+    let i = bounds
+        .iter()
+        .position(|&(low, high)| low <= hz && hz <= high)?;
+    Some(i as u32)
 }
 
-fn entry_of(f: Found) -> Place
+fn entry_of(f: Option<u32>) -> Place
     ensures { result ≡ band_place f }
 {
-    match f {
-        Found::At(k) => places::band_entry(k),
-        Found::Nothing => places::absent(),
-    }
+    f.map_or(places::absent(), places::band_entry)
 }
 
 // The band of a frequency, or absent: never a guess.
 pub fn band_for_freq_hz(hz: u64) -> Place
     ensures { result ≡ band_place (band_for hz) }
 {
-    entry_of(band_in(&LOW, &HIGH, hz))
+    entry_of(band_in(&BOUNDS, hz))
 }
 
-fn find_band(band: &[u8]) -> Found
+fn find_band(band: &[u8]) -> Option<u32>
     ensures { result ≡ band_named band.now }
 {
     tables::first_key(&KEYS, tables::text_key(text::space::trim(band)))
@@ -126,10 +96,7 @@ pub fn canonical_band(band: &[u8]) -> Place
 pub fn is_known_band(band: &[u8]) -> bool
     ensures { result ≡ is_found (band_named band.now) }
 {
-    match find_band(band) {
-        Found::At(_) => true,
-        Found::Nothing => false,
-    }
+    find_band(band).is_some()
 }
 
 // The entries of every band, low to high.

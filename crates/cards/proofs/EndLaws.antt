@@ -1,4 +1,5 @@
 -- The whole count. Assumes nothing.
+use Rattle.std.specs.Prelude.{Some, None}
 use mathlib.Core.Path.{◌≡◌, refl, sym, ap, ◌∙◌, subst}
 use mathlib.Core.Bool.{Bool, true, false}
 use mathlib.Core.List.{List, []}
@@ -20,7 +21,6 @@ use Rattle.entries.specs.Filled.{Said, Answered}
 use Rattle.counted.specs.Counted.{Marked}
 use Rattle.tallies.specs.Tallies.{services_in, Grown}
 use Rattle.tallies.specs.declared.Tally.{Tally}
-use Rattle.cards.specs.declared.Carded.TheVariants.{Full, Counted}
 use Rattle.cards.specs.Carded.{hits_in, kept_of, new_in, carded_as, cards_after}
 use Rattle.cards.specs.Steps.{Settled, confirms, tally_at, cards_at, rows_at, Ready as ReadyAt}
 use Rattle.cards.proofs.RowLaws.{now_fate}
@@ -140,9 +140,9 @@ module _ (text table list : List ℕ) (n k : ℕ) (was now : List Row) (blank ca
     too_many : length blank < length (new_in (contacts_of list) es n was)
     too_many = omega (arith, G.wide, (G.done es S A).used, new_most (contacts_of list) es (hits_in was n) (fates_in was n) k n h)
 
-    pub full_is : Full ≡ carded_as (contacts_of list) es n was (length blank)
+    pub full_is : None ≡ carded_as (contacts_of list) es n was (length blank)
     unfolding carded_as
-    full_is = ap (λ (b : Bool). pick b (Counted (length (new_in (contacts_of list) es n was)) (already_to (contacts_of list) es (hits_in was n) (fates_in was n) n) (unmatched_to (contacts_of list) es (hits_in was n) (fates_in was n) n)) Full) (sym (lt-leb (length (new_in (contacts_of list) es n was)) (length blank) too_many))
+    full_is = ap (λ (b : Bool). pick b (Some (record { confirmations = length (new_in (contacts_of list) es n was); already = already_to (contacts_of list) es (hits_in was n) (fates_in was n) n; unmatched = unmatched_to (contacts_of list) es (hits_in was n) (fates_in was n) n })) None) (sym (lt-leb (length (new_in (contacts_of list) es n was)) (length blank) too_many))
 
     pub full_cards : {B : Type 0} → length (new_in (contacts_of list) es n was) ≤ length blank → B
     full_cards r = absurd (omega (arith, too_many))
@@ -151,13 +151,13 @@ module _ (text table list : List ℕ) (n k : ℕ) (was now : List Row) (blank ca
     D : Done (contacts_of list) es n n was now blank cards t
     D = let z : k ≡ n = omega arith in rw z at (G.done es S A)
 
-    pub end_is : t.used ≤ length blank → Counted t.used t.already t.unmatched ≡ carded_as (contacts_of list) es n was (length blank)
+    pub end_is : t.used ≤ length blank → Some (record { confirmations = t.used; already = t.already; unmatched = t.unmatched }) ≡ carded_as (contacts_of list) es n was (length blank)
     unfolding carded_as
     end_is l =
-        ap (λ (x : ℕ). Counted x t.already t.unmatched) D.used
-        ∙ ap (λ (x : ℕ). Counted (length (new_in (contacts_of list) es n was)) x t.unmatched) D.already
-        ∙ ap (λ (x : ℕ). Counted (length (new_in (contacts_of list) es n was)) (already_to (contacts_of list) es (hits_in was n) (fates_in was n) n) x) D.unmatched
-        ∙ ap (λ (b : Bool). pick b (Counted (length (new_in (contacts_of list) es n was)) (already_to (contacts_of list) es (hits_in was n) (fates_in was n) n) (unmatched_to (contacts_of list) es (hits_in was n) (fates_in was n) n)) Full) (sym (le-leb (length (new_in (contacts_of list) es n was)) (length blank) (omega (arith, D.used))))
+        ap (λ (x : ℕ). Some (record { confirmations = x; already = t.already; unmatched = t.unmatched })) D.used
+        ∙ ap (λ (x : ℕ). Some (record { confirmations = length (new_in (contacts_of list) es n was); already = x; unmatched = t.unmatched })) D.already
+        ∙ ap (λ (x : ℕ). Some (record { confirmations = length (new_in (contacts_of list) es n was); already = already_to (contacts_of list) es (hits_in was n) (fates_in was n) n; unmatched = x })) D.unmatched
+        ∙ ap (λ (b : Bool). pick b (Some (record { confirmations = length (new_in (contacts_of list) es n was); already = already_to (contacts_of list) es (hits_in was n) (fates_in was n) n; unmatched = unmatched_to (contacts_of list) es (hits_in was n) (fates_in was n) n })) None) (sym (le-leb (length (new_in (contacts_of list) es n was)) (length blank) (omega (arith, D.used))))
 
     pub end_cards : cards ≡ cards_after (contacts_of list) es n was blank
     unfolding cards_after

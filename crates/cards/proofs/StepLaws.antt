@@ -2,18 +2,19 @@
 use mathlib.Core.Path.{◌≡◌, refl, sym, ap, ◌∙◌}
 use mathlib.Core.Bool.{Bool, true, false, not}
 use mathlib.Core.List.{List, [], ◌∷◌}
-use Prim.Native.Nat.{ℕ, ◌%◌, ◌≤◌}
+use Prim.Native.Nat.{ℕ, suc, ◌+◌, ◌%◌, ◌≤◌, ◌<◌}
 use native.Mathlib.Omega.{arith}
 use lib.Dec.{eqb}
-use lib.ListN.{get_or, set}
+use lib.ListN.{length, get_or, drop, set, drop_of_length-le}
+use lib.Seq.{drop-cons}
 use borrow.Author.Tests.{eq-eqb, ne_eqb}
 use Rattle.text.specs.Pick.{pick, both, either}
 use Rattle.chain.specs.Chain.{col}
-use Rattle.confirmations.specs.Confirmations.{unanswered, answers_of}
+use Rattle.confirmations.specs.Confirmations.{unanswered}
 use Rattle.confirmations.specs.declared.Answer.{Answer}
 use Rattle.entries.specs.Row.{Row}
 use Rattle.counted.specs.Counted.{code_in, seen, marked}
-use Rattle.tallies.specs.Tallies.{target_of, is_new, tally_with, card_for, unmarked, services_in, Grown}
+use Rattle.tallies.specs.Tallies.{target_of, is_new, tally_with, card_for, unmarked, services_in, Few, Grown}
 use Rattle.tallies.specs.declared.Tally.{Tally}
 use Rattle.tallies.specs.declared.Target.{Target}
 use Rattle.cards.specs.Steps.{tally_of, cards_of, tally_over, cards_over, unseen, confirms, answers_in, tally_at, cards_at, rows_at, Ready}
@@ -54,28 +55,52 @@ module _ (text : List ℕ) (rows : List Row) (k : ℕ) (to : Target) (a : Answer
   absent_cards p =
       ap (λ (x : Bool). pick (both x (is_new to (unseen text rows k a.service) a.service)) (set cards t.used (card_for to a)) cards) (sym p)
 
-module _ (to : Target) (counts : ℕ → Bool) (a b c d : Answer) (t one two three : Tally) (e1 : one ≡ tally_of to counts a t) (e2 : two ≡ tally_of to counts b one) (e3 : three ≡ tally_of to counts c two) where
-  pub four_counted : (r : Tally) → r ≡ tally_of to counts d three → r ≡ tally_over to counts (a ∷ b ∷ c ∷ d ∷ []) t
-  four_counted r e = e ∙ rw (e3, e2, e1) refl
+-- ---- of the answers those from i on are left
+pub record Going (to : Target) (counts : ℕ → Bool) (answers : List Answer) (was : Tally) (cards : List (List ℕ)) (i : ℕ) (t : Tally) (now : List (List ℕ)) : Type 0 where
+  pub tally : tally_over to counts (drop i answers) t ≡ tally_over to counts answers was
+  pub rows : cards_over to counts (drop i answers) t now ≡ cards_over to counts answers was cards
+  pub used : t.used ≤ was.used + i
+  pub already : t.already ≤ was.already + i
+  pub unmatched : t.unmatched ≤ was.unmatched + i
 
-  pub four_cards : (was first second third now : List (List ℕ)) → first ≡ cards_of to counts a t.used was → second ≡ cards_of to counts b one.used first → third ≡ cards_of to counts c two.used second → now ≡ cards_of to counts d three.used third
-      → now ≡ cards_over to counts (a ∷ b ∷ c ∷ d ∷ []) t was
-  four_cards was first second third now f1 f2 f3 f = f ∙ rw (f3, e3, f2, e2, f1, e1) refl
+module _ (to : Target) (counts : ℕ → Bool) (answers : List Answer) (was : Tally) (cards : List (List ℕ)) where
+  pub going_start : Going to counts answers was cards 0 was cards
+  going_start = record { tally = refl; rows = refl; used = omega arith; already = omega arith; unmatched = omega arith }
+
+  module _ (i : ℕ) (t : Tally) (now : List (List ℕ)) (G : Going to counts answers was cards i t now) where
+    pub going_few : i < 4 → was.used ≤ 17179869184 → was.already ≤ 17179869184 → was.unmatched ≤ 17179869184 → Few t
+    going_few h u a m = record { used = omega (arith, G.used); already = omega (arith, G.already); unmatched = omega (arith, G.unmatched) }
+
+    pub going_on : i < length answers → (r : Tally) (after : List (List ℕ)) → r ≡ tally_of to counts (get_or answers i unanswered) t → after ≡ cards_of to counts (get_or answers i unanswered) t.used now → Grown 1 t r
+        → Going to counts answers was cards (i + 1) r after
+    going_on h r after er ea g =
+        let z : suc i ≡ i + 1 = omega arith in
+        let c : drop i answers ≡ get_or answers i unanswered ∷ drop (suc i) answers = drop-cons answers i unanswered h in
+        record {
+          tally = rw (er, ← z) (sym (ap (λ (l : List Answer). tally_over to counts l t) c) ∙ G.tally);
+          rows = rw (ea, er, ← z) (sym (ap (λ (l : List Answer). cards_over to counts l t now) c) ∙ G.rows);
+          used = omega (arith, G.used, g.used);
+          already = omega (arith, G.already, g.already);
+          unmatched = omega (arith, G.unmatched, g.unmatched);
+        }
+
+    pub going_tally : length answers ≤ i → t ≡ tally_over to counts answers was
+    going_tally h = sym (ap (λ (l : List Answer). tally_over to counts l t) (drop_of_length-le answers {i = i} h)) ∙ G.tally
+
+    pub going_rows : length answers ≤ i → now ≡ cards_over to counts answers was cards
+    going_rows h = sym (ap (λ (l : List Answer). cards_over to counts l t now) (drop_of_length-le answers {i = i} h)) ∙ G.rows
+
+    pub going_grown : i ≤ 4 → Grown 4 was t
+    going_grown h = record { used = omega (arith, G.used); already = omega (arith, G.already); unmatched = omega (arith, G.unmatched) }
 
 module _ (text table list : List ℕ) (fates : List Row) (k : ℕ) (t u : Tally) (f h p : ℕ) (to : Target) (given : List Answer) (ef : f ≡ col fates k 0) (eh : h ≡ col fates k 22) (ep : p ≡ col fates k 27) (et : to ≡ target_of list f h p) (ea : given ≡ answers_in text table (get_or fates k [])) (eu : u ≡ unmarked t) where
-  four_of : get_or given 0 unanswered ∷ get_or given 1 unanswered ∷ get_or given 2 unanswered ∷ get_or given 3 unanswered ∷ [] ≡ answers_in text table (get_or fates k [])
-  unfolding answers_in answers_of
-  four_of = rw ea refl
-
-  pub at_counted : (r : Tally) → r ≡ tally_over to (unseen text fates k) (get_or given 0 unanswered ∷ get_or given 1 unanswered ∷ get_or given 2 unanswered ∷ get_or given 3 unanswered ∷ []) u → r ≡ tally_at text table list fates k t
+  pub at_counted : (r : Tally) → r ≡ tally_over to (unseen text fates k) given u → r ≡ tally_at text table list fates k t
   unfolding tally_at
-  at_counted r e =
-      e ∙ ap (λ (l : List Answer). tally_over to (unseen text fates k) l u) four_of ∙ rw (et, ef, eh, ep, eu) refl
+  at_counted r e = e ∙ rw (ea, et, ef, eh, ep, eu) refl
 
-  pub at_cards : (was now : List (List ℕ)) → now ≡ cards_over to (unseen text fates k) (get_or given 0 unanswered ∷ get_or given 1 unanswered ∷ get_or given 2 unanswered ∷ get_or given 3 unanswered ∷ []) u was → now ≡ cards_at text table list fates k t was
+  pub at_cards : (was now : List (List ℕ)) → now ≡ cards_over to (unseen text fates k) given u was → now ≡ cards_at text table list fates k t was
   unfolding cards_at
-  at_cards was now e =
-      e ∙ ap (λ (l : List Answer). cards_over to (unseen text fates k) l u was) four_of ∙ rw (et, ef, eh, ep, eu) refl
+  at_cards was now e = e ∙ rw (ea, et, ef, eh, ep, eu) refl
 
 module _ (fates : List Row) (n k : ℕ) (r : Tally) (services : ℕ) (es : services ≡ services_in r) where
   pub at_marked : (now : List Row) → (services ≡ 0 → ⊥) → now ≡ marked fates (code_in (get_or fates k []) % n) k services → now ≡ rows_at fates n k (services_in r)
@@ -86,21 +111,13 @@ module _ (fates : List Row) (n k : ℕ) (r : Tally) (services : ℕ) (es : servi
   unfolding rows_at
   at_left h = rw (← es, eq-eqb services 0 h) refl
 
-pub chosen : {A : Type 0} (fate f : ℕ) (t : Bool) (r x y : A) → f ≡ fate → t ≡ either (eqb f 5) (eqb f 6) → t ≡ true → r ≡ x → r ≡ pick (confirms fate) x y
-chosen fate f t r x y ef et h e = rw (← ef, ← et, h) e
+pub chosen : {A : Type 0} (fate : ℕ) (t : Bool) (r x y : A) → t ≡ either (eqb fate 5) (eqb fate 6) → t ≡ true → r ≡ x → r ≡ pick (confirms fate) x y
+chosen fate t r x y et h e = rw (← et, h) e
 
-pub passed : {A : Type 0} (fate f : ℕ) (t : Bool) (x y : A) → f ≡ fate → t ≡ either (eqb f 5) (eqb f 6) → t ≡ false → y ≡ pick (confirms fate) x y
-passed fate f t x y ef et h = rw (← ef, ← et, h) refl
+pub passed : {A : Type 0} (fate : ℕ) (t : Bool) (x y : A) → t ≡ either (eqb fate 5) (eqb fate 6) → t ≡ false → y ≡ pick (confirms fate) x y
+passed fate t x y et h = rw (← et, h) refl
 
 -- ---- bounds
-pub grown_four : (t one two three r : Tally) → Grown 1 t one → Grown 1 one two → Grown 1 two three → Grown 1 three r → Grown 4 t r
-grown_four t one two three r a b c d =
-    record {
-      used = omega (arith, a.used, b.used, c.used, d.used);
-      already = omega (arith, a.already, b.already, c.already, d.already);
-      unmatched = omega (arith, a.unmatched, b.unmatched, c.unmatched, d.unmatched);
-    }
-
 pub grown_from : (t u r : Tally) → u ≡ unmarked t → Grown 4 u r → Grown 4 t r
 unfolding unmarked
 grown_from t u r e g =

@@ -1,5 +1,6 @@
 -- What the confirmations of a plan come to: those to record, one row each, how many were known already, and how many match no contact.
-use Rattle.std.specs.Prelude.{ℕ, zero, suc, ◌≡◌, List, [], ◌∷◌, ◌++◌, map, leb, length, get_or, drop}
+use Rattle.cards.specs.declared.Counted.{Counted}
+use Rattle.std.specs.Prelude.{ℕ, zero, suc, ◌≡◌, List, [], ◌∷◌, ◌++◌, map, leb, length, get_or, drop, Option, Some, None}
 use Rattle.std.proofs.lemmas.List.Edits.{sets}
 use Rattle.text.specs.Pick.{pick}
 use Rattle.chain.specs.Chain.{col}
@@ -9,8 +10,6 @@ use Rattle.plan.specs.Confirmed.{Confirmation, new_to, already_to, unmatched_to}
 use Rattle.plan.specs.Cards.{card_row}
 use Rattle.plan.specs.Fates.{fates_in}
 use Rattle.entries.specs.Row.{Row}
-use Rattle.cards.specs.declared.Carded.{Carded}
-use Rattle.cards.specs.declared.Carded.TheVariants.{Full, Counted}
 
 -- the contacts that the first k records found
 unfoldable pub hits_in : List Row → ℕ → List ℕ
@@ -29,8 +28,8 @@ module _ (contacts : List Contact) (es : List Entry) (n : ℕ) (rows : List Row)
   unmatched_in = unmatched_to contacts es (hits_in rows n) (fates_in rows n) n
 
   -- the answer where there is room for so many confirmations, and what is in them then
-  unfoldable pub carded_as : ℕ → Carded
-  carded_as m = pick (leb (length new_in) m) (Counted (length new_in) already_in unmatched_in) Full
+  unfoldable pub carded_as : ℕ → Option Counted
+  carded_as m = pick (leb (length new_in) m) (Some (record { confirmations = length new_in; already = already_in; unmatched = unmatched_in })) None
 
   unfoldable pub cards_after : List (List ℕ) → List (List ℕ)
   cards_after cards = sets cards 0 (map card_row new_in)

@@ -1,12 +1,11 @@
 -- Worked examples.
-use Rattle.std.specs.Prelude.{◌≡◌, refl, true, false, List, [], ◌∷◌, ◌++◌, ℕ, replicate}
+use Rattle.std.specs.Prelude.{◌≡◌, refl, true, false, List, [], ◌∷◌, ◌++◌, ℕ, replicate, Some, None}
 use Rattle.text.specs.Ascii.{ascii}
 use Rattle.text.specs.Walk.{lead}
 use Rattle.text.specs.Space.{space1, space2, space3, space80, space_len, space_back, width, trim_start, trim_end, trimmed}
 use Rattle.letters.specs.Capitals.{raised}
 use Rattle.letters.specs.Same.{same_raised}
 use Rattle.tables.specs.Place.{stands}
-use Rattle.times.specs.declared.Moment.TheVariants.{Never}
 use Rattle.contacts.specs.Contacts.{Contact, contact}
 use Rattle.contacts.specs.Lists.{number_at, id_at, services_at}
 use Rattle.chain.specs.Chain.{over}
@@ -19,7 +18,6 @@ use Rattle.plan.specs.Confirmed.{has_bit, same_unmatched, alike, counts, counted
 use Rattle.entries.specs.Row.{Row}
 use Rattle.counted.specs.Counted.{code_in}
 use Rattle.tallies.specs.Tallies.{target, target_in, target_of, bits_of}
-use Rattle.cards.specs.declared.Carded.TheVariants.{Full, Counted}
 use Rattle.plan.specs.Cards.{no_card}
 use Rattle.cards.specs.Carded.{hits_in, carded_as, cards_after}
 
@@ -27,7 +25,7 @@ abbrev by : ℕ → ℕ → Answer
 by service place = record { present = true; service = service; date = stands place 8 }
 
 abbrev ssb : List ℕ → List Answer → Entry
-ssb call answers = record { call = call; mode = ascii "SSB"; band = ascii "40m"; moment = Never; reason = 0; answers = answers }
+ssb call answers = record { call = call; mode = ascii "SSB"; band = ascii "40m"; moment = None; reason = 0; answers = answers }
 
 -- lotw and eqsl for one contact, which has eqsl already; lotw for it once more; then lotw twice for a call that the log has not
 abbrev records : List Entry
@@ -49,11 +47,11 @@ abbrev rows : List Row
 rows = settled 5 1 ∷ settled 5 1 ∷ settled 6 0 ∷ settled 6 0 ∷ []
 
 -- one to record, one known already, one unmatched; there is room for one, and not in an empty table
-one_of_each : carded_as log records 4 rows 1 ≡ Counted 1 1 1
+one_of_each : carded_as log records 4 rows 1 ≡ Some (record { confirmations = 1; already = 1; unmatched = 1 })
 unfolding carded_as hits_in fates_in new_to already_to unmatched_to new_at old_at counted_at counts alike same_unmatched has_bit over same_raised raised trimmed trim_start trim_end lead space_len space_back width space1 space2 space3 space80
 one_of_each = refl
 
-no_room : carded_as log records 4 rows 0 ≡ Full
+no_room : carded_as log records 4 rows 0 ≡ None
 unfolding carded_as hits_in fates_in new_to already_to unmatched_to new_at old_at counted_at counts alike same_unmatched has_bit over same_raised raised trimmed trim_start trim_end lead space_len space_back width space1 space2 space3 space80
 no_room = refl
 

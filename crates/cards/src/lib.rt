@@ -13,23 +13,17 @@ ghost use Rattle.cards.specs.Carded.{new_in, carded_as, cards_after, Kept};
 ghost use Rattle.cards.specs.Steps.{Settled, tally_of, cards_of, tally_over, cards_over, unseen, confirms, answers_in, tally_at, cards_at, rows_at, Ready};
 
 use confirmations::Answer;
+use plan::{CONFIRMED, UNMATCHED};
 use tables::Place;
 use tallies::{Tally, Target};
 
 // How many are to be recorded, how many were known already and how many match no contact; `Full` where the lent table has no room.
 #[derive(Clone, Copy)]
-pub enum Carded {
-    Counted {
-        confirmations: usize,
-        already: u64,
-        unmatched: u64,
-    },
-    Full,
+pub struct Counted {
+    pub confirmations: usize,
+    pub already: u64,
+    pub unmatched: u64,
 }
-
-const CONFIRMED: usize = 5;
-
-const UNMATCHED: usize = 6;
 
 // The answers of a row's record.
 fn answers_at(text: &[u8], table: &[u32], r: [u32; 28]) -> [Answer; 4]
@@ -77,22 +71,20 @@ fn with_answers(
     n: usize,
     k: usize,
     to: Target,
-    a: Answer,
-    b: Answer,
-    c: Answer,
-    d: Answer,
+    answers: [Answer; 4],
     cards: &mut [[u32; 5]],
-    t: Tally,
+    was: Tally,
 ) -> Tally
-    requires { Marked text.now n k rows.now × (t.used ≤ 17179869184) × (t.already ≤ 17179869184) × (t.unmatched ≤ 17179869184) }
-    ensures value { result ≡ tally_over to (unseen text.now rows.now k) (a ∷ b ∷ c ∷ d ∷ []) t }
-    ensures cards_after { cards.new ≡ cards_over to (unseen text.now rows.now k) (a ∷ b ∷ c ∷ d ∷ []) t cards.old }
-    ensures grown { Grown 4 t result }
+    requires { Marked text.now n k rows.now × (was.used ≤ 17179869184) × (was.already ≤ 17179869184) × (was.unmatched ≤ 17179869184) }
+    ensures value { result ≡ tally_over to (unseen text.now rows.now k) answers was }
+    ensures cards_after { cards.new ≡ cards_over to (unseen text.now rows.now k) answers was cards.old }
+    ensures grown { Grown 4 was result }
 {
-    let one = with_answer(text, rows, n, k, to, a, cards, t);
-    let two = with_answer(text, rows, n, k, to, b, cards, one);
-    let three = with_answer(text, rows, n, k, to, c, cards, two);
-    with_answer(text, rows, n, k, to, d, cards, three)
+    let mut t = was;
+    for a in answers {
+        t = with_answer(text, rows, n, k, to, a, cards, t);
+    }
+    t
 }
 
 // A record that bears confirmations. It goes into its chain if one of them counts.
@@ -119,19 +111,7 @@ fn confirm_at(
         entries::number_in(rows[k], 27),
     );
     let answers = answers_at(text, table, rows[k]);
-    let r = with_answers(
-        text,
-        rows,
-        n,
-        k,
-        to,
-        answers[0],
-        answers[1],
-        answers[2],
-        answers[3],
-        cards,
-        tallies::with_none(t),
-    );
+    let r = with_answers(text, rows, n, k, to, answers, cards, tallies::with_none(t));
     let services = tallies::services_in(r);
     if services != 0 {
         counted::mark(rows, n, k, services);
@@ -155,7 +135,7 @@ fn confirm_one(
     ensures rows_after { rows.new ≡ pick (confirms (col rows.old k 0)) (rows_at rows.old n k (services_in result)) rows.old }
     ensures grown { Grown 4 t result }
 {
-    let fate = entries::number_in(rows[k], 0);
+    let fate = rows[k][0];
     if text::any(fate == CONFIRMED, fate == UNMATCHED) {
         return confirm_at(text, table, list, rows, n, k, cards, t);
     }
@@ -171,7 +151,7 @@ pub fn confirm(
     rows: &mut [[u32; 28]],
     n: usize,
     cards: &mut [[u32; 5]],
-) -> Carded
+) -> Option<Counted>
     requires { Settled text.now table.now list.now n rows.old }
     ensures value { (es : List Entry) → Said text.now n es rows.old → Answered text.now table.now n es rows.old → result ≡ carded_as (contacts_of list.now) es n rows.old (length cards.old) }
     ensures cards_after { (es : List Entry) → Said text.now n es rows.old → Answered text.now table.now n es rows.old → length (new_in (contacts_of list.now) es n rows.old) ≤ length cards.old → cards.new ≡ cards_after (contacts_of list.now) es n rows.old cards.old }
@@ -187,17 +167,15 @@ pub fn confirm(
         qrz: false,
         qsl: false,
     };
-    let mut k = 0;
-    while k < n {
+    for k in 0..n {
         t = confirm_one(text, table, list, rows, n, k, cards, t);
         if cards.len() < t.used {
-            return Carded::Full;
+            return None;
         }
-        k += 1;
     }
-    Carded::Counted {
+    Some(Counted {
         confirmations: t.used,
         already: t.already as u64,
         unmatched: t.unmatched as u64,
-    }
+    })
 }

@@ -23,13 +23,13 @@ use Rattle.cells.specs.Cells.{column_order}
 use Rattle.cellfields.specs.Fields.{name_at, column_name}
 
 -- ---- what holds of every name of a list holds of each, and of no name
-module _ (test : List ℕ → Bool) (None-passes : test [] ≡ true) where
+module _ (test : List ℕ → Bool) (none_passes : test [] ≡ true) where
   abbrev all_pass : List (List ℕ) → Bool
   all_pass [] = true
   all_pass (n ∷ ns) = both (test n) (all_pass ns)
 
   at_each : (ns : List (List ℕ)) (k : ℕ) → all_pass ns ≡ true → test (get_or ns k []) ≡ true
-  at_each [] k e = None-passes
+  at_each [] k e = none_passes
   at_each (n ∷ ns) zero e = both_left (test n) (all_pass ns) e
   at_each (n ∷ ns) (suc k) e = at_each ns k (both_right (test n) (all_pass ns) e)
 

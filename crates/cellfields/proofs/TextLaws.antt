@@ -1,8 +1,8 @@
 -- The bytes of a cell and its field: measured, and put. Assumes nothing.
+use Rattle.std.specs.Prelude.{None, Some}
 use mathlib.Core.Path.{◌≡◌, refl, sym, ap, ◌∙◌}
 use mathlib.Core.Bool.{Bool, true, false}
 use mathlib.Core.List.{List, [], ◌∷◌, ◌++◌, append_assoc}
-use mathlib.Core.Option.{none, some}
 use Prim.Native.Nat.{ℕ, ◌+◌, ◌/◌, ◌≤◌}
 use native.Mathlib.Omega.{arith}
 use lib.Dec.{eqb, ltb}
@@ -80,7 +80,7 @@ module _ (text : List ℕ) (p : Place) where
     where
       by : (c d : Bool) → ((pick c (spelled (or_empty (entry band_names p.start))) (pick d (spelled (or_empty (entry mode_names p.start))) no_name)).len ≤ 12)
           × (take (pick c (spelled (or_empty (entry band_names p.start))) (pick d (spelled (or_empty (entry mode_names p.start))) no_name)).len (pick c (spelled (or_empty (entry band_names p.start))) (pick d (spelled (or_empty (entry mode_names p.start))) no_name)).bytes
-          ≡ or_empty (pick c (entry band_names p.start) (pick d (entry mode_names p.start) none)))
+          ≡ or_empty (pick c (entry band_names p.start) (pick d (entry mode_names p.start) None)))
       by true d = (band_short p.start, spelled_out _ (band_short p.start))
       by false true = (mode_short p.start, spelled_out _ (mode_short p.start))
       by false false = (omega arith, refl)
@@ -116,7 +116,7 @@ module _ (text : List ℕ) (p : Place) where
   unfolding value
   words_few h = by (eqb p.kind 1) (eqb p.kind 2) (eqb p.kind 3) (eqb p.kind 4)
     where
-      by : (a b c d : Bool) → length (or_empty (pick a (some (part text p)) (pick b (some (capitals (part text p))) (pick c (entry band_names p.start) (pick d (entry mode_names p.start) none))))) ≤ 16777216
+      by : (a b c d : Bool) → length (or_empty (pick a (Some (part text p)) (pick b (Some (capitals (part text p))) (pick c (entry band_names p.start) (pick d (entry mode_names p.start) None))))) ≤ 16777216
       by true b c d = omega (arith, part_length text p)
       by false true c d = omega (arith, part_length text p, length-map (part text p) raised)
       by false false true d = omega (arith, band_short p.start)

@@ -1,9 +1,8 @@
 // The field of a column: its name, and the bytes of its cell.
 #![tactic(auto)]
 
-ghost use Rattle.std.specs.Prelude.{◌≡◌, ◌≤◌, length, take};
+ghost use Rattle.std.specs.Prelude.{◌≡◌, ◌≤◌, length};
 ghost use Rattle.output.specs.Put.{Put, Room};
-ghost use Rattle.fields.specs.Parts.{open_text};
 ghost use Rattle.tables.specs.Place.{bytes};
 ghost use Rattle.cells.specs.Cells.{number_text, cell_text};
 ghost use Rattle.cellfields.specs.Fields.{column_name, tag_text, cell_field};
@@ -12,6 +11,7 @@ use cells::Cell;
 use tables::{Name, Place, places};
 
 // The names of the columns in byte order.
+// Kept: names in a fixed width, and their lengths beside, since `tables::name_in` makes of them the `Name` of the C interface.
 const NAMES: [[u8; 12]; 13] = [
     *b"BAND\0\0\0\0\0\0\0\0",
     *b"BAND_RX\0\0\0\0\0",
@@ -59,13 +59,6 @@ fn put_number(out: &mut [u8], at: usize, negative: bool, n: u64) -> usize
     output::put_decimal(out, at, n)
 }
 
-fn put_spelled(out: &mut [u8], at: usize, name: [u8; 12], n: usize) -> usize
-    requires { (n ≤ 12) × Room out.old at (take n name) }
-    ensures { Put result out.old out.new at (take n name) }
-{
-    output::put_bytes(out, at, &name[..n])
-}
-
 fn put_words(out: &mut [u8], at: usize, text: &[u8], p: Place) -> usize
     requires { Room out.old at (bytes text.now p) }
     ensures { Put result out.old out.new at (bytes text.now p) }
@@ -77,8 +70,8 @@ fn put_words(out: &mut [u8], at: usize, text: &[u8], p: Place) -> usize
         return fields::put_raised(out, at, places::part(text, p));
     }
     let name = places::name_of(p);
-    let bytes = name.bytes;
-    put_spelled(out, at, bytes, name.len)
+    let spelled = &name.bytes[..name.len];
+    output::put_bytes(out, at, spelled)
 }
 
 fn cell_size(text: &[u8], cell: Cell) -> usize
@@ -107,20 +100,13 @@ fn put_cell(out: &mut [u8], at: usize, text: &[u8], cell: Cell) -> usize
 }
 
 // ---- the field
-fn put_open(out: &mut [u8], at: usize, name: [u8; 12], n: usize) -> usize
-    requires { (n ≤ 12) × Room out.old at (open_text (take n name)) }
-    ensures { Put result out.old out.new at (open_text (take n name)) }
-{
-    fields::put_open(out, at, &name[..n])
-}
-
 fn put_tag(out: &mut [u8], at: usize, k: usize, size: u64) -> usize
     requires { Room out.old at (tag_text k size) }
     ensures { Put result out.old out.new at (tag_text k size) }
 {
     let name = column_name(k);
-    let bytes = name.bytes;
-    let a = put_open(out, at, bytes, name.len);
+    let spelled = &name.bytes[..name.len];
+    let a = fields::put_open(out, at, spelled);
     fields::put_length(out, a, size)
 }
 

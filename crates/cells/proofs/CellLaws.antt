@@ -1,8 +1,8 @@
 -- What the cells of a QSO are. Assumes nothing.
+use Rattle.std.specs.Prelude.{Option, None, Some}
 use mathlib.Core.Path.{◌≡◌, refl, sym, ap, ◌∙◌}
 use mathlib.Core.Bool.{Bool, true, false}
 use mathlib.Core.List.{List, [], ◌∷◌}
-use mathlib.Core.Option.{Option, none, some}
 use Prim.Native.Nat.{ℕ}
 use native.Mathlib.Omega.{arith}
 use lib.Dec.{eqb, ltb}
@@ -28,13 +28,13 @@ use Rattle.cells.specs.declared.Cell.TheVariants.{Dropped, Words, Megahertz, Num
 
 -- ---- how many bytes a place stands for
 in_text_size : (a b c d : Bool) (s : List ℕ) (x y : Option (List ℕ)) → either a b ≡ true
-    → length s ≡ length (or_empty (pick a (some s) (pick b (some (capitals s)) (pick c x (pick d y none)))))
+    → length s ≡ length (or_empty (pick a (Some s) (pick b (Some (capitals s)) (pick c x (pick d y None)))))
 in_text_size true b c d s x y e = refl
 in_text_size false true c d s x y e = sym (length-map s raised)
 in_text_size false false c d s x y e = absurd (let z : ◌≡◌ {A = ℕ} 0 1 = cc in omega arith)
 
 entry_size : (a b c d : Bool) (s u : List ℕ) (x y : Option (List ℕ)) → either a b ≡ false
-    → (pick c (spelled (or_empty x)) (pick d (spelled (or_empty y)) no_name)).len ≡ length (or_empty (pick a (some s) (pick b (some u) (pick c x (pick d y none)))))
+    → (pick c (spelled (or_empty x)) (pick d (spelled (or_empty y)) no_name)).len ≡ length (or_empty (pick a (Some s) (pick b (Some u) (pick c x (pick d y None)))))
 entry_size true b c d s u x y e = absurd (let z : ◌≡◌ {A = ℕ} 0 1 = cc in omega arith)
 entry_size false true c d s u x y e = absurd (let z : ◌≡◌ {A = ℕ} 0 1 = cc in omega arith)
 entry_size false false true d s u x y e = refl

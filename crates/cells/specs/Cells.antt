@@ -1,6 +1,5 @@
 -- What each column of a QSO writes: nothing, or the bytes that a cell says. The columns stand in byte order of their names.
-use Rattle.std.specs.Prelude.{ℕ, Bool, true, false, List, [], ◌∷◌, eqb, ltb, length}
-use Rattle.std.proofs.Math.Option.{Option, none, some}
+use Rattle.std.specs.Prelude.{ℕ, Bool, true, false, List, [], ◌∷◌, eqb, ltb, length, Option, None, Some}
 use Rattle.text.specs.Ascii.{ascii}
 use Rattle.text.specs.Pick.{pick, both, either}
 use Rattle.decimal.specs.Digits.{decimal}
@@ -55,7 +54,7 @@ is_dropped (Megahertz hz) = false
 is_dropped (Number negative n) = false
 
 abbrev pub said : List ℕ → Cell → Option (List ℕ)
-said text cell = pick (is_dropped cell) none (some (cell_text text cell))
+said text cell = pick (is_dropped cell) None (Some (cell_text text cell))
 
 -- a place that stands for bytes: a part of the text, or an entry that its table has
 unfoldable pub has_value : Place → Bool

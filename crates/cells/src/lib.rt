@@ -129,13 +129,5 @@ pub fn cells_of(text: &[u8], q: Qso) -> [Cell; 13]
 pub fn is_dropped(cell: Cell) -> bool
     ensures { result ≡ is_dropped cell }
 {
-    match cell {
-        Cell::Dropped => true,
-        Cell::Words(_) => false,
-        Cell::Megahertz(_) => false,
-        Cell::Number {
-            negative: _,
-            size: _,
-        } => false,
-    }
+    matches!(cell, Cell::Dropped)
 }

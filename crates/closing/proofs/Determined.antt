@@ -1,15 +1,16 @@
 -- The public call's promise is met by one answer, and one state of each lent table. Assumes nothing.
+use Rattle.std.specs.Prelude.{Option}
+use Rattle.cards.specs.declared.Counted.{Counted}
 use mathlib.Core.Path.{◌≡◌, sym, ap, ◌∙◌}
 use mathlib.Core.List.{List}
 use Prim.Native.Nat.{ℕ}
 use Rattle.text.proofs.Once.{OnceWith}
 use Rattle.plan.specs.Plan.{Plan}
-use Rattle.cards.specs.declared.Carded.{Carded}
 use Rattle.closing.specs.Closed.{closed_table, closed_fates, closed_cards, Closed}
 use Rattle.closing.proofs.close.Reads as close
 use Rattle.closing.proofs.close.Kinds as close-kinds
 
-module _ (p : Plan) (was : List ℕ) (lent room : ℕ) (x y : Carded) (t u : List ℕ) (f g c d : List (List ℕ)) (a : Closed p was lent room x t f c) (b : Closed p was lent room y u g d) where
+module _ (p : Plan) (was : List ℕ) (lent room : ℕ) (x y : Option Counted) (t u : List ℕ) (f g c d : List (List ℕ)) (a : Closed p was lent room x t f c) (b : Closed p was lent room y u g d) where
   one_answer : x ≡ y
   one_answer = a.answer ∙ sym b.answer
 

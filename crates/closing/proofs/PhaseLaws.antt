@@ -1,4 +1,7 @@
 -- The phases one after the other: what the rows say stays said, and in the end they have the plan's fates. Assumes nothing.
+use Rattle.std.specs.Prelude.{Option, Result, Ok, Err}
+use Rattle.reader.specs.declared.Reading.{Reading}
+use Rattle.cards.specs.declared.Counted.{Counted}
 use mathlib.Core.Path.{◌≡◌, refl, sym, ap, ◌∙◌}
 use mathlib.Core.Bool.{Bool}
 use mathlib.Core.List.{List, []}
@@ -12,7 +15,6 @@ use Rattle.refusals.specs.declared.Refusal.{Refusal}
 use Rattle.adif.specs.Records.{records, refused}
 use Rattle.adif.specs.Reading.{RowsRead, read_text}
 use Rattle.reader.specs.Table.{answer_of}
-use Rattle.reader.specs.declared.Reading.TheVariants.{Read, Refused as Unread}
 use Rattle.contacts.specs.Lists.{contacts_of}
 use Rattle.search.specs.Search.{place_of}
 use Rattle.plan.specs.Entry.{Entry, no_entry}
@@ -22,21 +24,21 @@ use Rattle.plan.proofs.FateLaws.{fates_many}
 use Rattle.entries.specs.Row.{Row}
 use Rattle.entries.specs.Filled.{ReadInto, entries_read, Says, Answers, Said, Answered}
 use Rattle.entries.proofs.ReadFit.{FitRead, text_fit}
+use Rattle.entries.proofs.WalkLaws.{reading_is}
 use Rattle.logged.proofs.FoundLaws.{hit_at}
 use Rattle.fates.specs.Fated as fates
 use Rattle.fates.specs.Fated.{Found, Fated}
 use Rattle.cards.specs.Carded as carded
 use Rattle.cards.specs.Steps.{Settled}
 use Rattle.cards.specs.Carded.{hits_in, carded_as, cards_after, new_in}
-use Rattle.cards.specs.declared.Carded.{Carded}
 use Rattle.closing.specs.Phases.{Searched, plan_read, counted_by, Recorded}
 
 -- ---- few records
-unread_read : {P : Type 0} (why : Refusal) (n used : ℕ) → Unread why ≡ Read n used → P
+unread_read : {P : Type 0} (why : Refusal) (n used : ℕ) → ◌≡◌ {A = Result Reading Refusal} (Err why) (Ok (record { records = n; rows = used })) → P
 unread_read why n used e = absurd (let z : ◌≡◌ {A = ℕ} 0 1 = cc in omega arith)
 
-few_read : (r : RowsRead) (n used : ℕ) → FitRead r → answer_of r ≡ Read n used → n ≤ 65535
-few_read (records rs) n used f e = let l : length rs ≡ n = cc in omega (arith, f.1, l)
+few_read : (r : RowsRead) (n used : ℕ) → FitRead r → answer_of r ≡ Ok (record { records = n; rows = used }) → n ≤ 65535
+few_read (records rs) n used f e = let l : length rs ≡ n = (reading_is _ _ _ _ e).0 in omega (arith, f.1, l)
 few_read (refused w) n used f e = unread_read w n used e
 
 pub few_records : (text table : List ℕ) (n : ℕ) → ReadInto text table n → n ≤ 65535
@@ -145,7 +147,7 @@ module _ (text list table : List ℕ) (window : ℤ) (download : Bool) (n : ℕ)
     unfolding planned plan_from
     new_are = rw (settled_hits, settled_fates, Q.said.counted) refl
 
-    module _ (last : List Row) (cards cards' : List (List ℕ)) (r : Carded)
+    module _ (last : List Row) (cards cards' : List (List ℕ)) (r : Option Counted)
         (C : (es : List Entry) → Said text n es settled → Answered text table n es settled → r ≡ carded_as (contacts_of list) es n settled (length cards))
         (D : (es : List Entry) → Said text n es settled → Answered text table n es settled → length (new_in (contacts_of list) es n settled) ≤ length cards → cards' ≡ cards_after (contacts_of list) es n settled cards)
         (L : carded.Kept n settled last) (m : length cards' ≡ length cards) where

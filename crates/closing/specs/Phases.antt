@@ -1,5 +1,6 @@
 -- What the last phases ask for, and what they leave together before all but fate and reason is wiped from the rows.
-use Rattle.std.specs.Prelude.{ℕ, ◌≤◌, ◌<◌, ◌≡◌, Bool, List, map, ℤ, leb, length, get_or, drop, replicate}
+use Rattle.cards.specs.declared.Counted.{Counted}
+use Rattle.std.specs.Prelude.{ℕ, ◌≤◌, ◌<◌, ◌≡◌, Bool, List, map, ℤ, leb, length, get_or, drop, replicate, Option, Some, None}
 use Rattle.std.proofs.lemmas.List.Edits.{sets}
 use Rattle.text.specs.Pick.{pick}
 use Rattle.chain.specs.Chain.{col}
@@ -10,8 +11,6 @@ use Rattle.entries.specs.Row.{Row, no_row}
 use Rattle.entries.specs.Filled.{ReadInto, entries_read, Said, Answered, Bare}
 use Rattle.fates.specs.Fated.{Found}
 use Rattle.plan.specs.Cards.{card_row}
-use Rattle.cards.specs.declared.Carded.{Carded}
-use Rattle.cards.specs.declared.Carded.TheVariants.{Counted, Full}
 
 -- the rows of n records that were read into the table and looked up in the log; behind them zeros
 pub record Searched (text list table : List ℕ) (window : ℤ) (n : ℕ) (rows : List Row) : Type 0 where
@@ -29,11 +28,11 @@ pub record Searched (text list table : List ℕ) (window : ℤ) (n : ℕ) (rows 
 abbrev pub plan_read : List ℕ → List ℕ → ℤ → Bool → List ℕ → Plan
 plan_read text list window download table = planned window download (contacts_of list) (entries_read text table)
 
-abbrev pub counted_by : Plan → ℕ → Carded
-counted_by p m = pick (leb (length p.confirmations) m) (Counted (length p.confirmations) p.already p.unmatched) Full
+abbrev pub counted_by : Plan → ℕ → Option Counted
+counted_by p m = pick (leb (length p.confirmations) m) (Some (record { confirmations = length p.confirmations; already = p.already; unmatched = p.unmatched })) None
 
 -- n rows by a plan's fates and reasons, those behind as they were; and the confirmations, where there is room
-pub record Recorded (p : Plan) (n : ℕ) (rows cards : List (List ℕ)) (r : Carded) (rows' cards' : List (List ℕ)) : Type 0 where
+pub record Recorded (p : Plan) (n : ℕ) (rows cards : List (List ℕ)) (r : Option Counted) (rows' cards' : List (List ℕ)) : Type 0 where
   pub answer : r ≡ counted_by p (length cards)
   pub every_fate : length p.fates ≡ n
   pub every_reason : length p.reasons ≡ n

@@ -7,7 +7,7 @@ ghost use Rattle.plan.specs.Cards.{no_card};
 ghost use Rattle.closing.specs.Phases.{plan_read, Searched, Recorded};
 ghost use Rattle.closing.specs.Closed.{Closed};
 
-use cards::Carded;
+use cards::Counted;
 
 // The two phases over the rows of n records.
 fn settle_all(
@@ -19,7 +19,7 @@ fn settle_all(
     fates: &mut [[u32; 28]],
     n: usize,
     cards: &mut [[u32; 5]],
-) -> Carded
+) -> Option<Counted>
     requires { Searched text.now list.now table.now window n fates.old }
     ensures { Recorded (plan_read text.now list.now window download table.now) n fates.old cards.old result fates.new cards.new }
 {
@@ -37,29 +37,21 @@ pub fn close(
     fates: &mut [[u32; 28]],
     n: usize,
     cards: &mut [[u32; 5]],
-) -> Carded
+) -> Option<Counted>
     requires { Searched text.now list.now table.old window n fates.old × (cards.old ≡ replicate (length cards.old) no_card) }
     ensures { Closed (plan_read text.now list.now window download table.old) table.old (length fates.old) (length cards.old) result table.new fates.new cards.new }
 {
     let carded = settle_all(text, list, window, download, table, fates, n, cards);
     match carded {
-        Carded::Counted {
-            confirmations,
-            already,
-            unmatched,
-        } => {
+        Some(counted) => {
             wiped::keep_fates(fates, n);
-            Carded::Counted {
-                confirmations,
-                already,
-                unmatched,
-            }
+            Some(counted)
         }
-        Carded::Full => {
+        None => {
             reader::clear(table, 0);
             wiped::clear_fates(fates);
             wiped::clear_cards(cards);
-            Carded::Full
+            None
         }
     }
 }

@@ -1,168 +1,173 @@
 -- The tests of a name against the columns' names of its length. Assumes nothing.
-use mathlib.Core.Path.{◌≡◌, refl, sym, ◌∙◌}
+use Rattle.std.specs.Prelude.{Option, Some, None}
+use mathlib.Core.Path.{◌≡◌, refl, sym, ap, ◌∙◌}
 use mathlib.Core.Bool.{Bool, true, false}
-use mathlib.Core.List.{List}
-use Prim.Native.Nat.{ℕ}
+use mathlib.Core.List.{List, [], ◌∷◌, ◌++◌, map}
+use Prim.Native.Nat.{ℕ, zero, suc, ◌+◌, ◌-◌, ◌<◌}
+use native.Mathlib.Nat.{not-suc-le-zero, le_of_suc-le-suc}
+use native.Mathlib.Numerals.{add-one}
 use native.Mathlib.Omega.{arith}
-use lib.ListN.{length}
+use lib.ListN.{length, get_or, set, take, length-map}
+use Rattle.std.specs.Option.{MatchOption}
+use Rattle.std.proofs.Math.Seq.{take-suc-set}
+use Rattle.text.specs.Pick.{pick}
 use Rattle.text.specs.Ascii.{ascii}
-use Rattle.letters.specs.Capitals.{capitals}
+use Rattle.letters.specs.Capitals.{raised, capitals}
 use Rattle.letters.specs.Same.{same, same_raised}
-use Rattle.letters.proofs.SameLaws.{same_refl, same_true, lengths_differ_raised}
+use Rattle.letters.proofs.SameLaws.{same_refl, same_true, lengths_differ}
 use Rattle.letters.proofs.CapitalLaws.{capitals_twice}
-use Rattle.tables.specs.Table.{named, is_found}
-use Rattle.tables.specs.declared.Found.{Found}
-use Rattle.tables.specs.declared.Found.TheVariants.{At, Nothing}
+use Rattle.tables.specs.Table.{first_from, named}
 use Rattle.tables.proofs.EntryLaws.{first_alike}
-use Rattle.columns.specs.Columns.{column_names, column_named, Told}
-use Rattle.columns.proofs.LaidLaws.{is_column_lem}
+use Rattle.columns.specs.Columns.{column_names, column_named}
+use Rattle.columns.proofs.LaidLaws.{is_column_lem, found_within}
 
 -- a name and the same in capitals name one column
 pub named_raised : (x : List ℕ) → column_named (capitals x) ≡ column_named x
 unfolding column_named named same_raised
 named_raised x = first_alike (same_raised (capitals x)) (same_raised x) (λ n. rw (capitals_twice x) refl) 0 column_names
 
-other_length : (x n : List ℕ) → (length x ≡ length n → ⊥) → same_raised x n ≡ false
-other_length x n h = sym (lengths_differ_raised x n h)
+other_length : (x n : List ℕ) → (length x ≡ length n → ⊥) → same x n ≡ false
+other_length x n h = sym (lengths_differ x n h)
+
+-- the column that has the name as it stands
+abbrev pub exact : List ℕ → Option ℕ
+exact x = first_from (same x) 0 column_names
+
+exact_at : (x n : List ℕ) (k : ℕ) → same x n ≡ true → exact n ≡ Some k → Some k ≡ exact x
+exact_at x n k h q = sym q ∙ ap exact (sym (same_true x n h))
 
 -- the name of a column
 module _ (x : List ℕ) (t : Bool) where
-  pub call : t ≡ same_raised x (ascii "CALL") → t ≡ true → At 0 ≡ column_named x
+  pub call : t ≡ same x (ascii "CALL") → t ≡ true → Some 0 ≡ exact x
   unfolding column_names
-  call e h = sym (is_column_lem x 0 (omega arith) (sym e ∙ h))
+  call e h = exact_at x _ 0 (sym e ∙ h) refl
 
-  pub qso_date_lem : t ≡ same_raised x (ascii "QSO_DATE") → t ≡ true → At 1 ≡ column_named x
+  pub qso_date_lem : t ≡ same x (ascii "QSO_DATE") → t ≡ true → Some 1 ≡ exact x
   unfolding column_names
-  qso_date_lem e h = sym (is_column_lem x 1 (omega arith) (sym e ∙ h))
+  qso_date_lem e h = exact_at x _ 1 (sym e ∙ h) refl
 
-  pub time_on_lem : t ≡ same_raised x (ascii "TIME_ON") → t ≡ true → At 2 ≡ column_named x
+  pub time_on_lem : t ≡ same x (ascii "TIME_ON") → t ≡ true → Some 2 ≡ exact x
   unfolding column_names
-  time_on_lem e h = sym (is_column_lem x 2 (omega arith) (sym e ∙ h))
+  time_on_lem e h = exact_at x _ 2 (sym e ∙ h) refl
 
-  pub band : t ≡ same_raised x (ascii "BAND") → t ≡ true → At 3 ≡ column_named x
+  pub band : t ≡ same x (ascii "BAND") → t ≡ true → Some 3 ≡ exact x
   unfolding column_names
-  band e h = sym (is_column_lem x 3 (omega arith) (sym e ∙ h))
+  band e h = exact_at x _ 3 (sym e ∙ h) refl
 
-  pub mode : t ≡ same_raised x (ascii "MODE") → t ≡ true → At 4 ≡ column_named x
+  pub mode : t ≡ same x (ascii "MODE") → t ≡ true → Some 4 ≡ exact x
   unfolding column_names
-  mode e h = sym (is_column_lem x 4 (omega arith) (sym e ∙ h))
+  mode e h = exact_at x _ 4 (sym e ∙ h) refl
 
-  pub submode : t ≡ same_raised x (ascii "SUBMODE") → t ≡ true → At 5 ≡ column_named x
+  pub submode : t ≡ same x (ascii "SUBMODE") → t ≡ true → Some 5 ≡ exact x
   unfolding column_names
-  submode e h = sym (is_column_lem x 5 (omega arith) (sym e ∙ h))
+  submode e h = exact_at x _ 5 (sym e ∙ h) refl
 
-  pub freq : t ≡ same_raised x (ascii "FREQ") → t ≡ true → At 6 ≡ column_named x
+  pub freq : t ≡ same x (ascii "FREQ") → t ≡ true → Some 6 ≡ exact x
   unfolding column_names
-  freq e h = sym (is_column_lem x 6 (omega arith) (sym e ∙ h))
+  freq e h = exact_at x _ 6 (sym e ∙ h) refl
 
-  pub freq_rx_lem : t ≡ same_raised x (ascii "FREQ_RX") → t ≡ true → At 7 ≡ column_named x
+  pub freq_rx_lem : t ≡ same x (ascii "FREQ_RX") → t ≡ true → Some 7 ≡ exact x
   unfolding column_names
-  freq_rx_lem e h = sym (is_column_lem x 7 (omega arith) (sym e ∙ h))
+  freq_rx_lem e h = exact_at x _ 7 (sym e ∙ h) refl
 
-  pub band_rx_lem : t ≡ same_raised x (ascii "BAND_RX") → t ≡ true → At 8 ≡ column_named x
+  pub band_rx_lem : t ≡ same x (ascii "BAND_RX") → t ≡ true → Some 8 ≡ exact x
   unfolding column_names
-  band_rx_lem e h = sym (is_column_lem x 8 (omega arith) (sym e ∙ h))
+  band_rx_lem e h = exact_at x _ 8 (sym e ∙ h) refl
 
-  pub rst_sent_lem : t ≡ same_raised x (ascii "RST_SENT") → t ≡ true → At 9 ≡ column_named x
+  pub rst_sent_lem : t ≡ same x (ascii "RST_SENT") → t ≡ true → Some 9 ≡ exact x
   unfolding column_names
-  rst_sent_lem e h = sym (is_column_lem x 9 (omega arith) (sym e ∙ h))
+  rst_sent_lem e h = exact_at x _ 9 (sym e ∙ h) refl
 
-  pub rst_rcvd_lem : t ≡ same_raised x (ascii "RST_RCVD") → t ≡ true → At 10 ≡ column_named x
+  pub rst_rcvd_lem : t ≡ same x (ascii "RST_RCVD") → t ≡ true → Some 10 ≡ exact x
   unfolding column_names
-  rst_rcvd_lem e h = sym (is_column_lem x 10 (omega arith) (sym e ∙ h))
+  rst_rcvd_lem e h = exact_at x _ 10 (sym e ∙ h) refl
 
-  pub gridsquare : t ≡ same_raised x (ascii "GRIDSQUARE") → t ≡ true → At 11 ≡ column_named x
+  pub gridsquare : t ≡ same x (ascii "GRIDSQUARE") → t ≡ true → Some 11 ≡ exact x
   unfolding column_names
-  gridsquare e h = sym (is_column_lem x 11 (omega arith) (sym e ∙ h))
+  gridsquare e h = exact_at x _ 11 (sym e ∙ h) refl
 
-  pub dxcc : t ≡ same_raised x (ascii "DXCC") → t ≡ true → At 12 ≡ column_named x
+  pub dxcc : t ≡ same x (ascii "DXCC") → t ≡ true → Some 12 ≡ exact x
   unfolding column_names
-  dxcc e h = sym (is_column_lem x 12 (omega arith) (sym e ∙ h))
+  dxcc e h = exact_at x _ 12 (sym e ∙ h) refl
 
 -- none of them
 module _ (x : List ℕ) where
-  none_same : same_raised x (ascii "CALL") ≡ false → same_raised x (ascii "QSO_DATE") ≡ false → same_raised x (ascii "TIME_ON") ≡ false → same_raised x (ascii "BAND") ≡ false → same_raised x (ascii "MODE") ≡ false → same_raised x (ascii "SUBMODE") ≡ false → same_raised x (ascii "FREQ") ≡ false → same_raised x (ascii "FREQ_RX") ≡ false → same_raised x (ascii "BAND_RX") ≡ false → same_raised x (ascii "RST_SENT") ≡ false → same_raised x (ascii "RST_RCVD") ≡ false → same_raised x (ascii "GRIDSQUARE") ≡ false → same_raised x (ascii "DXCC") ≡ false → Nothing ≡ column_named x
-  unfolding column_named named column_names
+  none_same : same x (ascii "CALL") ≡ false → same x (ascii "QSO_DATE") ≡ false → same x (ascii "TIME_ON") ≡ false → same x (ascii "BAND") ≡ false → same x (ascii "MODE") ≡ false → same x (ascii "SUBMODE") ≡ false → same x (ascii "FREQ") ≡ false → same x (ascii "FREQ_RX") ≡ false → same x (ascii "BAND_RX") ≡ false → same x (ascii "RST_SENT") ≡ false → same x (ascii "RST_RCVD") ≡ false → same x (ascii "GRIDSQUARE") ≡ false → same x (ascii "DXCC") ≡ false → None ≡ exact x
+  unfolding column_names
   none_same e0 e1 e2 e3 e4 e5 e6 e7 e8 e9 e10 e11 e12 = rw (e0, e1, e2, e3, e4, e5, e6, e7, e8, e9, e10, e11, e12) refl
 
-  pub none_of_four : (t0 : Bool) (t3 : Bool) (t4 : Bool) (t6 : Bool) (t12 : Bool) → length x ≡ 4 → t0 ≡ same_raised x (ascii "CALL") → t0 ≡ false → t3 ≡ same_raised x (ascii "BAND") → t3 ≡ false → t4 ≡ same_raised x (ascii "MODE") → t4 ≡ false → t6 ≡ same_raised x (ascii "FREQ") → t6 ≡ false → t12 ≡ same_raised x (ascii "DXCC") → t12 ≡ false → Nothing ≡ column_named x
+  pub none_of_four : (t0 : Bool) (t3 : Bool) (t4 : Bool) (t6 : Bool) (t12 : Bool) → length x ≡ 4 → t0 ≡ same x (ascii "CALL") → t0 ≡ false → t3 ≡ same x (ascii "BAND") → t3 ≡ false → t4 ≡ same x (ascii "MODE") → t4 ≡ false → t6 ≡ same x (ascii "FREQ") → t6 ≡ false → t12 ≡ same x (ascii "DXCC") → t12 ≡ false → None ≡ exact x
   none_of_four t0 t3 t4 t6 t12 l e0 h0 e3 h3 e4 h4 e6 h6 e12 h12 = none_same (sym e0 ∙ h0) (other_length x (ascii "QSO_DATE") (λ z. omega arith)) (other_length x (ascii "TIME_ON") (λ z. omega arith)) (sym e3 ∙ h3) (sym e4 ∙ h4) (other_length x (ascii "SUBMODE") (λ z. omega arith)) (sym e6 ∙ h6) (other_length x (ascii "FREQ_RX") (λ z. omega arith)) (other_length x (ascii "BAND_RX") (λ z. omega arith)) (other_length x (ascii "RST_SENT") (λ z. omega arith)) (other_length x (ascii "RST_RCVD") (λ z. omega arith)) (other_length x (ascii "GRIDSQUARE") (λ z. omega arith)) (sym e12 ∙ h12)
 
-  pub none_of_seven : (t2 : Bool) (t5 : Bool) (t7 : Bool) (t8 : Bool) → length x ≡ 7 → t2 ≡ same_raised x (ascii "TIME_ON") → t2 ≡ false → t5 ≡ same_raised x (ascii "SUBMODE") → t5 ≡ false → t7 ≡ same_raised x (ascii "FREQ_RX") → t7 ≡ false → t8 ≡ same_raised x (ascii "BAND_RX") → t8 ≡ false → Nothing ≡ column_named x
+  pub none_of_seven : (t2 : Bool) (t5 : Bool) (t7 : Bool) (t8 : Bool) → length x ≡ 7 → t2 ≡ same x (ascii "TIME_ON") → t2 ≡ false → t5 ≡ same x (ascii "SUBMODE") → t5 ≡ false → t7 ≡ same x (ascii "FREQ_RX") → t7 ≡ false → t8 ≡ same x (ascii "BAND_RX") → t8 ≡ false → None ≡ exact x
   none_of_seven t2 t5 t7 t8 l e2 h2 e5 h5 e7 h7 e8 h8 = none_same (other_length x (ascii "CALL") (λ z. omega arith)) (other_length x (ascii "QSO_DATE") (λ z. omega arith)) (sym e2 ∙ h2) (other_length x (ascii "BAND") (λ z. omega arith)) (other_length x (ascii "MODE") (λ z. omega arith)) (sym e5 ∙ h5) (other_length x (ascii "FREQ") (λ z. omega arith)) (sym e7 ∙ h7) (sym e8 ∙ h8) (other_length x (ascii "RST_SENT") (λ z. omega arith)) (other_length x (ascii "RST_RCVD") (λ z. omega arith)) (other_length x (ascii "GRIDSQUARE") (λ z. omega arith)) (other_length x (ascii "DXCC") (λ z. omega arith))
 
-  pub none_of_eight : (t1 : Bool) (t9 : Bool) (t10 : Bool) → length x ≡ 8 → t1 ≡ same_raised x (ascii "QSO_DATE") → t1 ≡ false → t9 ≡ same_raised x (ascii "RST_SENT") → t9 ≡ false → t10 ≡ same_raised x (ascii "RST_RCVD") → t10 ≡ false → Nothing ≡ column_named x
+  pub none_of_eight : (t1 : Bool) (t9 : Bool) (t10 : Bool) → length x ≡ 8 → t1 ≡ same x (ascii "QSO_DATE") → t1 ≡ false → t9 ≡ same x (ascii "RST_SENT") → t9 ≡ false → t10 ≡ same x (ascii "RST_RCVD") → t10 ≡ false → None ≡ exact x
   none_of_eight t1 t9 t10 l e1 h1 e9 h9 e10 h10 = none_same (other_length x (ascii "CALL") (λ z. omega arith)) (sym e1 ∙ h1) (other_length x (ascii "TIME_ON") (λ z. omega arith)) (other_length x (ascii "BAND") (λ z. omega arith)) (other_length x (ascii "MODE") (λ z. omega arith)) (other_length x (ascii "SUBMODE") (λ z. omega arith)) (other_length x (ascii "FREQ") (λ z. omega arith)) (other_length x (ascii "FREQ_RX") (λ z. omega arith)) (other_length x (ascii "BAND_RX") (λ z. omega arith)) (sym e9 ∙ h9) (sym e10 ∙ h10) (other_length x (ascii "GRIDSQUARE") (λ z. omega arith)) (other_length x (ascii "DXCC") (λ z. omega arith))
 
-  pub none_of_ten : (t11 : Bool) → length x ≡ 10 → t11 ≡ same_raised x (ascii "GRIDSQUARE") → t11 ≡ false → Nothing ≡ column_named x
+  pub none_of_ten : (t11 : Bool) → length x ≡ 10 → t11 ≡ same x (ascii "GRIDSQUARE") → t11 ≡ false → None ≡ exact x
   none_of_ten t11 l e11 h11 = none_same (other_length x (ascii "CALL") (λ z. omega arith)) (other_length x (ascii "QSO_DATE") (λ z. omega arith)) (other_length x (ascii "TIME_ON") (λ z. omega arith)) (other_length x (ascii "BAND") (λ z. omega arith)) (other_length x (ascii "MODE") (λ z. omega arith)) (other_length x (ascii "SUBMODE") (λ z. omega arith)) (other_length x (ascii "FREQ") (λ z. omega arith)) (other_length x (ascii "FREQ_RX") (λ z. omega arith)) (other_length x (ascii "BAND_RX") (λ z. omega arith)) (other_length x (ascii "RST_SENT") (λ z. omega arith)) (other_length x (ascii "RST_RCVD") (λ z. omega arith)) (sym e11 ∙ h11) (other_length x (ascii "DXCC") (λ z. omega arith))
 
-  pub of_no_length : (length x ≡ 4 → ⊥) → (length x ≡ 7 → ⊥) → (length x ≡ 8 → ⊥) → (length x ≡ 10 → ⊥) → Nothing ≡ column_named x
+  pub of_no_length : (length x ≡ 4 → ⊥) → (length x ≡ 7 → ⊥) → (length x ≡ 8 → ⊥) → (length x ≡ 10 → ⊥) → None ≡ exact x
   of_no_length a b c d = none_same (other_length x (ascii "CALL") a) (other_length x (ascii "QSO_DATE") c) (other_length x (ascii "TIME_ON") b) (other_length x (ascii "BAND") a) (other_length x (ascii "MODE") a) (other_length x (ascii "SUBMODE") b) (other_length x (ascii "FREQ") a) (other_length x (ascii "FREQ_RX") b) (other_length x (ascii "BAND_RX") b) (other_length x (ascii "RST_SENT") c) (other_length x (ascii "RST_RCVD") c) (other_length x (ascii "GRIDSQUARE") d) (other_length x (ascii "DXCC") a)
 
--- ---- whether there is one
-module _ (x : List ℕ) (f : Found) (e : f ≡ column_named x) where
-  pub a_column : (k : ℕ) → f ≡ At k → true ≡ is_found (column_named x)
-  a_column k h = rw (← e, h) refl
-
-  pub no_column : f ≡ Nothing → false ≡ is_found (column_named x)
-  no_column h = rw (← e, h) refl
-
--- ---- a name as it stands
-told_at : (x : List ℕ) (j : ℕ) → At j ≡ column_named x → Told (At j) x
-unfolding Told
-told_at x j e k h = sym e ∙ h
-
-exact : (x n : List ℕ) (t : Bool) → t ≡ same x n → t ≡ true → same_raised x n ≡ true
+-- ---- a name as it stands, and with the case of its letters aside
+alike : (x n : List ℕ) → same x n ≡ true → same_raised x n ≡ true
 unfolding same_raised
-exact x n t e h = rw (same_true x n (sym e ∙ h)) (same_refl (capitals n))
+alike x n h = rw (same_true x n h) (same_refl (capitals n))
 
-pub none_told : (x : List ℕ) → Told Nothing x
-unfolding Told
-none_told x k h = absurd (let z : ◌≡◌ {A = ℕ} 0 1 = cc in omega arith)
+passes : {A : Type 0} (d : A) (test : A → Bool) (j k : ℕ) (ns : List A) → first_from test j ns ≡ Some k → test (get_or ns (k - j) d) ≡ true
+passes d test j k [] e = absurd (let z : ◌≡◌ {A = ℕ} 0 1 = cc in omega arith)
+passes d test j k (n ∷ ns) e = by (test n) refl e (λ q. passes d test (suc j) k ns q)
+  where
+    by : (b : Bool) → test n ≡ b → pick b (Some j) (first_from test (suc j) ns) ≡ Some k
+        → (first_from test (suc j) ns ≡ Some k → test (get_or ns (k - suc j) d) ≡ true) → test (get_or (n ∷ ns) (k - j) d) ≡ true
+    by true p q r =
+        let z : j ≡ k = cc in
+        let w : k - j ≡ 0 = omega arith in
+        rw w p
+    by false p q r =
+        let w : k - j ≡ suc (k - suc j) = omega (arith, (found_within test (suc j) k ns q).0) in
+        rw w (r q)
 
-module _ (x : List ℕ) (t : Bool) where
-  pub call_told : t ≡ same x (ascii "CALL") → t ≡ true → Told (At 0) x
-  call_told e h = told_at x 0 (call x true (sym (exact x (ascii "CALL") t e h)) refl)
+pub exact_is : (x : List ℕ) (f : Option ℕ) (k : ℕ) → f ≡ exact x → f ≡ Some k → Some k ≡ column_named x
+unfolding column_names
+exact_is x f k e h =
+    let q : exact x ≡ Some k = sym e ∙ h in
+    let w : k - 0 ≡ k = omega arith in
+    let there : same x (get_or column_names k []) ≡ true = rw w at (passes [] (same x) 0 k column_names q) in
+    sym (is_column_lem x k (found_within (same x) 0 k column_names q).1 (alike x (get_or column_names k []) there))
 
-  pub qso_date_told : t ≡ same x (ascii "QSO_DATE") → t ≡ true → Told (At 1) x
-  qso_date_told e h = told_at x 1 (qso_date_lem x true (sym (exact x (ascii "QSO_DATE") t e h)) refl)
+pub exact_or : {P : Type 0} (x : List ℕ) (f r : Option ℕ) → (P → r ≡ column_named x) → f ≡ exact x → MatchOption f P (λ k. r ≡ Some k) → r ≡ column_named x
+exact_or x None r g e m = g m
+exact_or x (Some k) r g e m = m ∙ exact_is x (Some k) k e refl
 
-  pub time_on_told : t ≡ same x (ascii "TIME_ON") → t ≡ true → Told (At 2) x
-  time_on_told e h = told_at x 2 (time_on_lem x true (sym (exact x (ascii "TIME_ON") t e h)) refl)
+-- the columns' names are in capitals
+raised_alike : (x : List ℕ) (j : ℕ) (ns : List (List ℕ)) → first_from (same (capitals x)) j (map capitals ns) ≡ first_from (same_raised x) j ns
+unfolding same_raised
+raised_alike x j [] = refl
+raised_alike x j (n ∷ ns) = rw (raised_alike x (suc j) ns) refl
 
-  pub band_told : t ≡ same x (ascii "BAND") → t ≡ true → Told (At 3) x
-  band_told e h = told_at x 3 (band x true (sym (exact x (ascii "BAND") t e h)) refl)
+in_capitals : map capitals column_names ≡ column_names
+unfolding column_names raised
+in_capitals = refl
 
-  pub mode_told : t ≡ same x (ascii "MODE") → t ≡ true → Told (At 4) x
-  mode_told e h = told_at x 4 (mode x true (sym (exact x (ascii "MODE") t e h)) refl)
+raised_is : (x : List ℕ) → exact (capitals x) ≡ column_named x
+unfolding column_named named
+raised_is x = ap (λ (ns : List (List ℕ)). first_from (same (capitals x)) 0 ns) (sym in_capitals) ∙ raised_alike x 0 column_names
 
-  pub submode_told : t ≡ same x (ascii "SUBMODE") → t ≡ true → Told (At 5) x
-  submode_told e h = told_at x 5 (submode x true (sym (exact x (ascii "SUBMODE") t e h)) refl)
+pub raised_is_lem : (x y : List ℕ) (f : Option ℕ) → y ≡ capitals x → f ≡ exact y → f ≡ column_named x
+raised_is_lem x y f e g = g ∙ ap exact e ∙ raised_is x
 
-  pub freq_told : t ≡ same x (ascii "FREQ") → t ≡ true → Told (At 6) x
-  freq_told e h = told_at x 6 (freq x true (sym (exact x (ascii "FREQ") t e h)) refl)
+pub too_long : (x : List ℕ) → 10 < length x → None ≡ column_named x
+too_long x h = of_no_length (capitals x) (λ e. omega (arith, length-map x raised)) (λ e. omega (arith, length-map x raised)) (λ e. omega (arith, length-map x raised)) (λ e. omega (arith, length-map x raised)) ∙ raised_is x
 
-  pub freq_rx_told : t ≡ same x (ascii "FREQ_RX") → t ≡ true → Told (At 7) x
-  freq_rx_told e h = told_at x 7 (freq_rx_lem x true (sym (exact x (ascii "FREQ_RX") t e h)) refl)
-
-  pub band_rx_told : t ≡ same x (ascii "BAND_RX") → t ≡ true → Told (At 8) x
-  band_rx_told e h = told_at x 8 (band_rx_lem x true (sym (exact x (ascii "BAND_RX") t e h)) refl)
-
-  pub rst_sent_told : t ≡ same x (ascii "RST_SENT") → t ≡ true → Told (At 9) x
-  rst_sent_told e h = told_at x 9 (rst_sent_lem x true (sym (exact x (ascii "RST_SENT") t e h)) refl)
-
-  pub rst_rcvd_told : t ≡ same x (ascii "RST_RCVD") → t ≡ true → Told (At 10) x
-  rst_rcvd_told e h = told_at x 10 (rst_rcvd_lem x true (sym (exact x (ascii "RST_RCVD") t e h)) refl)
-
-  pub gridsquare_told : t ≡ same x (ascii "GRIDSQUARE") → t ≡ true → Told (At 11) x
-  gridsquare_told e h = told_at x 11 (gridsquare x true (sym (exact x (ascii "GRIDSQUARE") t e h)) refl)
-
-  pub dxcc_told : t ≡ same x (ascii "DXCC") → t ≡ true → Told (At 12) x
-  dxcc_told e h = told_at x 12 (dxcc x true (sym (exact x (ascii "DXCC") t e h)) refl)
-
--- ---- told exactly, or looked for with the case of letters aside
-module _ (x : List ℕ) (f : Found) (g : Told f x) where
-  pub is_told : (k : ℕ) → f ≡ At k → At k ≡ column_named x
-  unfolding Told
-  is_told k e = sym (g k e)
+-- the loop that raises each byte
+pub raised_next : (l : List ℕ) (bytes : List ℕ) (i v : ℕ) → i < length l → i < length bytes → take i bytes ≡ capitals (take i l) → v ≡ raised (get_or l i 0)
+    → take (i + 1) (set bytes i v) ≡ capitals (take (i + 1) l)
+raised_next l bytes i v h k e r = rw (add-one, take-suc-set bytes i v k, e, r) (sym (next l i h))
+  where
+    next : (l : List ℕ) (i : ℕ) → i < length l → capitals (take (suc i) l) ≡ capitals (take i l) ++ (raised (get_or l i 0) ∷ [])
+    next [] i h = absurd (not-suc-le-zero h)
+    next (x ∷ xs) zero h = refl
+    next (x ∷ xs) (suc i) h = ap (λ (t : List ℕ). raised x ∷ t) (next xs i (le_of_suc-le-suc h))

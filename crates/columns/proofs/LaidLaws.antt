@@ -1,4 +1,5 @@
 -- No column's name stands twice, so a field of one name fills one column and leaves the others alone. Assumes nothing.
+use Rattle.std.specs.Prelude.{Some, None}
 use mathlib.Core.Path.{◌≡◌, refl, sym, ap, ◌∙◌}
 use mathlib.Core.Bool.{Bool, true, false, not}
 use mathlib.Core.List.{List, [], ◌∷◌, map}
@@ -12,7 +13,6 @@ use Rattle.letters.specs.Capitals.{raised, capitals}
 use Rattle.letters.specs.Same.{same_raised}
 use Rattle.letters.proofs.SameLaws.{same_refl, same_raised_true}
 use Rattle.tables.specs.Table.{first_from, named}
-use Rattle.tables.specs.declared.Found.TheVariants.{At, Nothing}
 use Rattle.tables.proofs.Tested.{all, pairs, all_at}
 use Rattle.columns.specs.Columns.{column_names, column_named}
 
@@ -39,7 +39,7 @@ alone x n m d e = by (same_raised x m) refl
 
 -- so the column that has the name is the one that is found
 first_is : (x : List ℕ) (j k : ℕ) (ns : List (List ℕ)) → pairs differ ns ≡ true → k < length ns → same_raised x (get_or ns k []) ≡ true
-    → first_from (same_raised x) j ns ≡ At (j + k)
+    → first_from (same_raised x) j ns ≡ Some (j + k)
 first_is x j k [] d h e = absurd (not-suc-le-zero h)
 first_is x j zero (n ∷ ns) d h e =
     let z : j + 0 ≡ j = omega arith in
@@ -50,7 +50,7 @@ first_is x j (suc k) (n ∷ ns) d h e =
     apart : differ n (get_or ns k []) ≡ true
     apart = all_at [] (differ n) ns (both_left (all (differ n) ns) (pairs differ ns) d) k (le_of_suc-le-suc h)
 
-    by : (b : Bool) → same_raised x n ≡ b → first_from (same_raised x) (suc j) ns ≡ At (suc j + k) → pick b (At j) (first_from (same_raised x) (suc j) ns) ≡ At (j + suc k)
+    by : (b : Bool) → same_raised x n ≡ b → first_from (same_raised x) (suc j) ns ≡ Some (suc j + k) → pick b (Some j) (first_from (same_raised x) (suc j) ns) ≡ Some (j + suc k)
     by true q r =
         let z : same_raised x (get_or ns k []) ≡ false = alone x n (get_or ns k []) apart q in
         absurd (let z : ◌≡◌ {A = ℕ} 0 1 = cc in omega arith)
@@ -58,18 +58,18 @@ first_is x j (suc k) (n ∷ ns) d h e =
         let z : j + suc k ≡ suc j + k = omega arith in
         rw z r
 
-pub is_column_lem : (x : List ℕ) (k : ℕ) → k < length column_names → same_raised x (get_or column_names k []) ≡ true → column_named x ≡ At k
+pub is_column_lem : (x : List ℕ) (k : ℕ) → k < length column_names → same_raised x (get_or column_names k []) ≡ true → column_named x ≡ Some k
 unfolding column_named named
 is_column_lem x k h e =
     let z : 0 + k ≡ k = omega arith in
     rw z at (first_is x 0 k column_names columns_differ h e)
 
 -- the entry that is found is counted from j on
-pub found_within : {A : Type 0} (test : A → Bool) (j k : ℕ) (ns : List A) → first_from test j ns ≡ At k → (j ≤ k) × (k < j + length ns)
+pub found_within : {A : Type 0} (test : A → Bool) (j k : ℕ) (ns : List A) → first_from test j ns ≡ Some k → (j ≤ k) × (k < j + length ns)
 found_within test j k [] e = absurd (let z : ◌≡◌ {A = ℕ} 0 1 = cc in omega arith)
 found_within test j k (n ∷ ns) e = by (test n) e (λ q. found_within test (suc j) k ns q)
   where
-    by : (b : Bool) → pick b (At j) (first_from test (suc j) ns) ≡ At k → (first_from test (suc j) ns ≡ At k → (suc j ≤ k) × (k < suc j + length ns))
+    by : (b : Bool) → pick b (Some j) (first_from test (suc j) ns) ≡ Some k → (first_from test (suc j) ns ≡ Some k → (suc j ≤ k) × (k < suc j + length ns))
         → (j ≤ k) × (k < j + suc (length ns))
     by true q r =
         let z : j ≡ k = cc in
@@ -86,12 +86,12 @@ module _ {A : Type 0} (x : List ℕ) (v : A) (f g : List ℕ → A) (eg : (n : L
   other_there n e = eg n ∙ ap (λ (b : Bool). pick b v (f n)) e
 
   -- none of the names: nothing is filled
-  none_filled : (j : ℕ) (ns : List (List ℕ)) → first_from (same_raised x) j ns ≡ Nothing → map g ns ≡ map f ns
+  none_filled : (j : ℕ) (ns : List (List ℕ)) → first_from (same_raised x) j ns ≡ None → map g ns ≡ map f ns
   none_filled j [] e = refl
   none_filled j (n ∷ ns) e = by (same_raised x n) refl e (λ q. none_filled (suc j) ns q)
     where
-      by : (b : Bool) → same_raised x n ≡ b → pick b (At j) (first_from (same_raised x) (suc j) ns) ≡ Nothing
-          → (first_from (same_raised x) (suc j) ns ≡ Nothing → map g ns ≡ map f ns) → g n ∷ map g ns ≡ f n ∷ map f ns
+      by : (b : Bool) → same_raised x n ≡ b → pick b (Some j) (first_from (same_raised x) (suc j) ns) ≡ None
+          → (first_from (same_raised x) (suc j) ns ≡ None → map g ns ≡ map f ns) → g n ∷ map g ns ≡ f n ∷ map f ns
       by true p q r = absurd (let z : ◌≡◌ {A = ℕ} 0 1 = cc in omega arith)
       by false p q r =
           let h : g n ≡ f n = other_there n p in
@@ -106,12 +106,12 @@ module _ {A : Type 0} (x : List ℕ) (v : A) (f g : List ℕ → A) (eg : (n : L
       let t : map g ms ≡ map f ms = rest_alone n ms e (both_right (differ n m) (all (differ n) ms) d) in
       cc
 
-  one_filled : (j k : ℕ) (ns : List (List ℕ)) → pairs differ ns ≡ true → first_from (same_raised x) j ns ≡ At k → map g ns ≡ set (map f ns) (k - j) v
+  one_filled : (j k : ℕ) (ns : List (List ℕ)) → pairs differ ns ≡ true → first_from (same_raised x) j ns ≡ Some k → map g ns ≡ set (map f ns) (k - j) v
   one_filled j k [] d e = refl
   one_filled j k (n ∷ ns) d e = by (same_raised x n) refl e (λ q. one_filled (suc j) k ns (both_right (all (differ n) ns) (pairs differ ns) d) q)
     where
-      by : (b : Bool) → same_raised x n ≡ b → pick b (At j) (first_from (same_raised x) (suc j) ns) ≡ At k
-          → (first_from (same_raised x) (suc j) ns ≡ At k → map g ns ≡ set (map f ns) (k - suc j) v) → g n ∷ map g ns ≡ set (f n ∷ map f ns) (k - j) v
+      by : (b : Bool) → same_raised x n ≡ b → pick b (Some j) (first_from (same_raised x) (suc j) ns) ≡ Some k
+          → (first_from (same_raised x) (suc j) ns ≡ Some k → map g ns ≡ set (map f ns) (k - suc j) v) → g n ∷ map g ns ≡ set (f n ∷ map f ns) (k - j) v
       by true p q r =
           let z : j ≡ k = cc in
           let w : k - j ≡ 0 = omega arith in
@@ -123,16 +123,16 @@ module _ {A : Type 0} (x : List ℕ) (v : A) (f g : List ℕ → A) (eg : (n : L
           let h : g n ≡ f n = other_there n p in
           rw (w, h, r q) refl
 
-  pub no_column_filled : column_named x ≡ Nothing → map g column_names ≡ map f column_names
+  pub no_column_filled : column_named x ≡ None → map g column_names ≡ map f column_names
   unfolding column_named named
   no_column_filled e = none_filled 0 column_names e
 
-  pub column_filled : (k : ℕ) → column_named x ≡ At k → map g column_names ≡ set (map f column_names) k v
+  pub column_filled : (k : ℕ) → column_named x ≡ Some k → map g column_names ≡ set (map f column_names) k v
   unfolding column_named named
   column_filled k e =
       let w : k - 0 ≡ k = omega arith in
       rw w at (one_filled 0 k column_names columns_differ e)
 
-pub column_below : (x : List ℕ) (k : ℕ) → column_named x ≡ At k → k < 13
+pub column_below : (x : List ℕ) (k : ℕ) → column_named x ≡ Some k → k < 13
 unfolding column_named named column_names
 column_below x k e = (found_within (same_raised x) 0 k column_names e).1

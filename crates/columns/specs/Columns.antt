@@ -1,9 +1,7 @@
 -- The thirteen columns of a contact: the fields that have a place of their own, by their numbers.
-use Rattle.std.specs.Prelude.{◌≡◌, ℕ, Bool, List, [], ◌∷◌}
+use Rattle.std.specs.Prelude.{ℕ, Bool, List, [], ◌∷◌, Option}
 use Rattle.text.specs.Ascii.{ascii}
 use Rattle.tables.specs.Table.{named, is_found}
-use Rattle.tables.specs.declared.Found.{Found}
-use Rattle.tables.specs.declared.Found.TheVariants.{At}
 
 abbrev pub call : ℕ
 call = 0
@@ -62,13 +60,9 @@ column_names =
     ∷ []
 
 -- the column that a field's name names, the case of letters aside
-unfoldable pub column_named : List ℕ → Found
+unfoldable pub column_named : List ℕ → Option ℕ
 column_named name = named name column_names
 
 -- all other fields are extra
 abbrev pub is_column : List ℕ → Bool
 is_column name = is_found (column_named name)
-
--- a column that is told is the name's; none may be told, though there is one
-unfoldable pub Told : Found → List ℕ → Type 0
-Told f name = (k : ℕ) → f ≡ At k → column_named name ≡ At k

@@ -5,7 +5,7 @@ use mathlib.Core.List.{List, [], ◌∷◌}
 use Prim.Native.Nat.{ℕ, ◌+◌, ◌-◌, ◌≤◌, ◌<◌}
 use native.Mathlib.Omega.{arith}
 use lib.ListN.{get_or, take, get_or-map}
-use Rattle.text.specs.Pick.{either}
+use Rattle.text.specs.Pick.{pick, either}
 use Rattle.text.specs.Ascii.{ascii}
 use Rattle.letters.specs.Capitals.{raised}
 use Rattle.letters.specs.Same.{same_raised}
@@ -21,22 +21,10 @@ use Rattle.confirmations.specs.Confirmations.{begins}
 use Rattle.confirmations.specs.Heard.{heard_of, said_with, heard_with, telling}
 
 -- ---- two names
-module _ (name wanted dated : List ℕ) (v : Place) (was : Said) (a : Bool) (ea : a ≡ same_raised name wanted) (b : Bool) (eb : b ≡ same_raised name dated) where
-  pub said_both : a ≡ true → b ≡ true → (record { value = v; date = v }) ≡ said_with name v wanted dated was
-  unfolding said_with
-  said_both p q = rw (← ea, ← eb, p, q) refl
-
-  pub said_value : a ≡ true → b ≡ false → (record { value = v; date = was.date }) ≡ said_with name v wanted dated was
-  unfolding said_with
-  said_value p q = rw (← ea, ← eb, p, q) refl
-
-  pub said_date : a ≡ false → b ≡ true → (record { value = was.value; date = v }) ≡ said_with name v wanted dated was
-  unfolding said_with
-  said_date p q = rw (← ea, ← eb, p, q) refl
-
-  pub said_neither : a ≡ false → b ≡ false → was ≡ said_with name v wanted dated was
-  unfolding said_with
-  said_neither p q = rw (← ea, ← eb, p, q) refl
+pub said_is : (name wanted dated : List ℕ) (v : Place) (was : Said) (a : Bool) → a ≡ same_raised name wanted → (b : Bool) → b ≡ same_raised name dated
+    → (x d : Place) → x ≡ pick a v was.value → d ≡ pick b v was.date → (record { value = x; date = d }) ≡ said_with name v wanted dated was
+unfolding said_with
+said_is name wanted dated v was a ea b eb x d ex ed = rw (← ea, ← eb, ex, ed) refl
 
 -- ---- all of them
 pub heard_is : (name : List ℕ) (v : Place) (was : Heard) (l e q k : Said) (t ag o oe m ol : Bool)

@@ -9,6 +9,7 @@ ghost use Rattle.confirmations.specs.Heard.{said_of, heard_of, said_with, heard_
 use tables::{Place, places};
 
 // What one service says of a record: whether it confirms, which it is (1 lotw, 2 eqsl, 4 qrz, 8 a card), and since when.
+// Kept: a flag and no Option, since the promise of `confirmations_in` is told by these fields.
 #[repr(C)]
 #[derive(Clone, Copy)]
 pub struct Answer {
@@ -53,21 +54,18 @@ fn does_begin(name: &[u8], front: &[u8]) -> bool
 fn said_with(name: &[u8], value: Place, wanted: &[u8], dated: &[u8], was: Said) -> Said
     ensures { result ≡ said_with name.now value wanted.now dated.now was }
 {
-    if letters::same_raised(name, wanted) {
-        if letters::same_raised(name, dated) {
-            return Said { value, date: value };
-        }
-        let date = was.date;
-        return Said { value, date };
+    Said {
+        value: if letters::same_raised(name, wanted) {
+            value
+        } else {
+            was.value
+        },
+        date: if letters::same_raised(name, dated) {
+            value
+        } else {
+            was.date
+        },
     }
-    let told = was.value;
-    if letters::same_raised(name, dated) {
-        return Said {
-            value: told,
-            date: value,
-        };
-    }
-    was
 }
 
 fn heard_with(name: &[u8], value: Place, was: Heard) -> Heard
@@ -141,9 +139,7 @@ fn heard_in(text: &[u8], table: &[u32], first: usize, count: usize) -> Heard
     ensures { result ≡ heard_of text.now (rows_from table.now first count) }
 {
     let mut heard = heard_nothing();
-    let mut i = count;
-    while 0 < i {
-        i -= 1;
+    for i in (0..count).rev() {
         let row = writer::row_at(table, first + i);
         let name = rowcheck::name_of(text, row);
         if !is_telling(text::byte(name, 0), text::byte(name, 2)) {
@@ -222,9 +218,8 @@ fn has_stood(by_lotw: bool, by_eqsl: bool, service: u32) -> bool
 fn is_by_eqsl(text: &[u8], h: Heard) -> bool
     ensures { result ≡ eqsl_by text.now h }
 {
-    let eqsl = h.eqsl;
     text::any(
-        is_said(text, eqsl.value, b"Y"),
+        is_said(text, h.eqsl.value, b"Y"),
         text::any(h.has_ag, h.of_eqsl),
     )
 }
@@ -233,27 +228,23 @@ fn card_by(text: &[u8], h: Heard, by_lotw: bool, by_eqsl: bool, date: Place) -> 
     requires { length text.now ≤ 16777216 }
     ensures { result ≡ card_by text.now h by_lotw by_eqsl date }
 {
-    let card = h.card;
     let service = attributed_to(h.of_lotw, h.of_eqsl);
     let stands = has_stood(by_lotw, by_eqsl, service);
-    let bears = text::all(is_said(text, card.value, b"Y"), !stands);
-    answer_by(text, bears, service, card.date, date)
+    let bears = text::all(is_said(text, h.card.value, b"Y"), !stands);
+    answer_by(text, bears, service, h.card.date, date)
 }
 
 fn answers_by(text: &[u8], h: Heard, date: Place) -> [Answer; 4]
     requires { length text.now ≤ 16777216 }
     ensures { result ≡ answers_by text.now h date }
 {
-    let lotw = h.lotw;
-    let eqsl = h.eqsl;
-    let qrz = h.qrz;
-    let by_lotw = is_said(text, lotw.value, b"Y");
+    let by_lotw = is_said(text, h.lotw.value, b"Y");
     let by_eqsl = is_by_eqsl(text, h);
-    let by_qrz = is_said(text, qrz.value, b"C");
+    let by_qrz = is_said(text, h.qrz.value, b"C");
     [
-        answer_by(text, by_lotw, LOTW, lotw.date, date),
-        answer_by(text, by_eqsl, EQSL, eqsl.date, date),
-        answer_by(text, by_qrz, QRZ, qrz.date, date),
+        answer_by(text, by_lotw, LOTW, h.lotw.date, date),
+        answer_by(text, by_eqsl, EQSL, h.eqsl.date, date),
+        answer_by(text, by_qrz, QRZ, h.qrz.date, date),
         card_by(text, h, by_lotw, by_eqsl, date),
     ]
 }

@@ -1,18 +1,32 @@
 -- Numbers, texts and entries of a list. Assumes nothing.
 use mathlib.Core.Path.{◌≡◌, refl, sym, ◌∙◌}
 use mathlib.Core.Bool.{Bool, true, false}
+use mathlib.Core.Logic.{◌⊎◌, inl, inr}
 use mathlib.Core.List.{List, []}
-use Prim.Native.Nat.{ℕ, zero, suc, ◌+◌, ◌-◌, ◌*◌, ◌≤◌, ◌<◌}
+use Prim.Native.Nat.{ℕ, zero, suc, ◌+◌, ◌-◌, ◌*◌, ◌^◌, ◌≤◌, ◌<◌}
+use native.Mathlib.Numerals.{add-one}
 use native.Mathlib.Omega.{arith}
+use Rattle.std.proofs.Math.Nat.{pow-suc, pow-le-pow_right}
 use lib.ListN.{length, get_or, take, drop, length-drop, drop_of_length-le}
+use lib.Dec.{leb}
 use lib.Seq.{take_all, take-nil, get_or-drop, get_or-take}
 use borrow.Author.Tests.{le-leb, lt-leb, eq-eqb, ne_eqb}
 use Rattle.text.specs.Pick.{both}
+use Rattle.text.specs.Utf8.{utf8}
 use Rattle.decimal.specs.Decimal.{all_digits}
-use Rattle.contacts.specs.Contacts.{is_date, is_time, sound, sound_head, sound_texts}
+use Rattle.contacts.specs.Contacts.{plain, is_date, is_time, sound, sound_head, sound_texts}
 use Rattle.contacts.specs.Lists.{number_at, text_at, after, call_at, date_at, time_at, band_at, mode_at, end_at, id_at, services_at, contact_at, fits, good_at}
 
--- ---- dates and times of day
+-- ---- texts, dates, times of day, heads
+module _ (t : List ℕ) where
+  pub is_short : length t ≤ 255 → (u : Bool) → u ≡ utf8 t → u ≡ plain t
+  unfolding plain
+  is_short h u e = e ∙ rw (le-leb (length t) 255 h) refl
+
+  pub too_long : 255 < length t → false ≡ plain t
+  unfolding plain
+  too_long h = rw (lt-leb (length t) 255 h) refl
+
 module _ (d : List ℕ) where
   pub no_date : (length d ≡ 8 → ⊥) → false ≡ is_date d
   unfolding is_date
@@ -22,49 +36,38 @@ module _ (d : List ℕ) where
   unfolding is_date
   date_is e t q = q ∙ rw (eq-eqb (length d) 8 e) refl
 
-  pub time_of_4 : length d ≡ 4 → (t : Bool) → t ≡ all_digits d → t ≡ is_time d
+  pub time_is : (length d ≡ 4) ⊎ ((length d ≡ 4 → ⊥) × (length d ≡ 6)) → (t : Bool) → t ≡ all_digits d → t ≡ is_time d
   unfolding is_time
-  time_of_4 e t q = q ∙ rw (eq-eqb (length d) 4 e) refl
+  time_is (inl e) t q = q ∙ rw (eq-eqb (length d) 4 e) refl
+  time_is (inr n) t q = q ∙ rw (ne_eqb (length d) 4 n.0, eq-eqb (length d) 6 n.1) refl
 
-  module _ (f : length d ≡ 4 → ⊥) where
-    pub time_of_6 : length d ≡ 6 → (t : Bool) → t ≡ all_digits d → t ≡ is_time d
-    unfolding is_time
-    time_of_6 e t q = q ∙ rw (ne_eqb (length d) 4 f, eq-eqb (length d) 6 e) refl
+  pub no_time : (length d ≡ 4 → ⊥) × (length d ≡ 6 → ⊥) → (t : Bool) → t ≡ false → t ≡ is_time d
+  unfolding is_time
+  no_time n t e = e ∙ rw (ne_eqb (length d) 4 n.0, ne_eqb (length d) 6 n.1) refl
 
-    pub no_time : (length d ≡ 6 → ⊥) → false ≡ is_time d
-    unfolding is_time
-    no_time n = rw (ne_eqb (length d) 4 f, ne_eqb (length d) 6 n) refl
+module _ (id services : ℕ) where
+  pub head_is : (1 ≤ id) × (id ≤ 9223372036854775807) → leb services 15 ≡ sound_head id services
+  unfolding sound_head
+  head_is h = rw (le-leb 1 id h.0, le-leb id 9223372036854775807 h.1) refl
+
+  pub no_head : ((1 ≤ id) × (9223372036854775807 < id)) ⊎ (id < 1) → (t : Bool) → t ≡ false → t ≡ sound_head id services
+  unfolding sound_head
+  no_head (inl h) t e = e ∙ rw (le-leb 1 id h.0, lt-leb id 9223372036854775807 h.1) refl
+  no_head (inr h) t e = e ∙ rw (lt-leb 1 id h) refl
 
 -- ---- numbers
-pub two_is : (s : List ℕ) (at a b x y : ℕ) → x ≡ get_or s at 0 → a ≡ x → y ≡ get_or s (at + 1) 0 → b ≡ y → a * 256 + b ≡ number_at s at 2
+pub number_on : (s : List ℕ) (at i n b : ℕ) → n ≡ number_at s at i → b ≡ get_or s (at + i) 0 → n * 256 + b ≡ number_at s at (i + 1)
 unfolding number_at
-two_is s at a b x y ex ea ey eb =
-    let z : at + 0 ≡ at = omega arith in rw z (omega arith)
+number_on s at i n b e f = rw (add-one i, e, f) refl
 
-pub two_below : (a b : ℕ) → a < 256 → b < 256 → a * 256 + b < 65536
-two_below a b h k = omega arith
+pub number_below : (n b i : ℕ) → n < 256 ^ i → b < 256 → n * 256 + b < 256 ^ (i + 1)
+number_below n b i h l = rw (add-one i, pow-suc 256 i) (omega (arith, h, l))
 
-shift : (s : List ℕ) (at k : ℕ) → get_or s (at + 2 + k) 0 ≡ get_or s (at + (2 + k)) 0
-shift s at k = let z : at + 2 + k ≡ at + (2 + k) = omega arith in rw z refl
-
-pub four_is : (s : List ℕ) (at a b : ℕ) → a ≡ number_at s at 2 → b ≡ number_at s (at + 2) 2 → a * 65536 + b ≡ number_at s at 4
-unfolding number_at
-four_is s at a b ea eb =
-    let p = shift s at 0 in
-    let q = shift s at 1 in
-    omega (arith, ea, eb, p, q)
-
-shift4 : (s : List ℕ) (at k : ℕ) → get_or s (at + 4 + k) 0 ≡ get_or s (at + (4 + k)) 0
-shift4 s at k = let z : at + 4 + k ≡ at + (4 + k) = omega arith in rw z refl
-
-pub eight_is : (s : List ℕ) (at a b : ℕ) → a ≡ number_at s at 4 → b ≡ number_at s (at + 4) 4 → a * 4294967296 + b ≡ number_at s at 8
-unfolding number_at
-eight_is s at a b ea eb =
-    let p = shift4 s at 0 in
-    let q = shift4 s at 1 in
-    let u = shift4 s at 2 in
-    let v = shift4 s at 3 in
-    omega (arith, ea, eb, p, q, u, v)
+pub number_fits : (n b i k : ℕ) → n < 256 ^ i → b < 256 → i < k → k ≤ 8 → n * 256 + b < 18446744073709551616
+number_fits n b i k h l m e =
+    let le : i + 1 ≤ 8 = omega arith in
+    let z : 256 ^ (i + 1) ≤ 256 ^ 8 = pow-le-pow_right (omega arith) le in
+    omega (arith, number_below n b i h l, z)
 
 pub id_far : (s : List ℕ) (at n : ℕ) → n ≡ number_at s (at + 2) 8 → n ≡ id_at s at
 unfolding id_at

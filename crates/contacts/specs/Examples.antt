@@ -1,12 +1,11 @@
 -- Worked examples.
-use Rattle.std.specs.Prelude.{◌≡◌, refl, List, [], ◌∷◌, ◌++◌, ℕ}
+use Rattle.std.specs.Prelude.{◌≡◌, refl, List, [], ◌∷◌, ◌++◌, ℕ, Ok, Err}
 use Rattle.text.specs.Ascii.{ascii}
 use Rattle.text.specs.Walk.{lead}
 use Rattle.text.specs.Utf8.{char_len, long_char, second3, second4, valid_up_to, utf8}
 use Rattle.refusals.specs.declared.Refusal.TheVariants.{OtherVersion, MalformedList, IdsNotRising}
 use Rattle.contacts.specs.Contacts.{Contact, contact, plain, is_date, is_time, sound_head, sound_texts, sound, bytes_of, body_text, entry_text, entries_text, list_text, largest}
 use Rattle.contacts.specs.Lists.{number_at, text_at, after, call_at, date_at, time_at, band_at, mode_at, end_at, id_at, services_at, contact_at, fits, good_at, entries_from, count_of, listed_as, contacts_from, contacts_of, fresh_by, fresh_against}
-use Rattle.contacts.specs.declared.Listed.TheVariants.{Marked, Refused}
 use Rattle.contacts.specs.declared.Freshness.TheVariants.{Fresh, Stale}
 
 -- contact 7, confirmed by LoTW
@@ -31,60 +30,60 @@ said : contacts_of (list 1 (entry 7 1)) ≡ seven ∷ []
 unfolding contacts_of contacts_from contact_at count_of id_at services_at call_at date_at time_at band_at mode_at end_at after text_at number_at
 said = refl
 
-marked : listed_as (list 1 (entry 7 1)) ≡ Marked 1 7
+marked : listed_as (list 1 (entry 7 1)) ≡ Ok (record { contacts = 1; largest = 7 })
 unfolding listed_as entries_from good_at fits contact_at count_of id_at services_at call_at date_at time_at band_at mode_at end_at after text_at number_at plain is_date is_time sound_head sound_texts sound lead char_len long_char second3 second4 valid_up_to utf8
 marked = refl
 
-empty_list : listed_as (list 0 []) ≡ Marked 0 0
+empty_list : listed_as (list 0 []) ≡ Ok (record { contacts = 0; largest = 0 })
 unfolding listed_as entries_from count_of number_at
 empty_list = refl
 
 -- nothing at all; another version; no whole count
-nothing : listed_as [] ≡ Refused MalformedList
+nothing : listed_as [] ≡ Err MalformedList
 unfolding listed_as
 nothing = refl
 
-version_two : listed_as (2 ∷ []) ≡ Refused OtherVersion
+version_two : listed_as (2 ∷ []) ≡ Err OtherVersion
 unfolding listed_as
 version_two = refl
 
-half_a_count : listed_as (1 ∷ 0 ∷ []) ≡ Refused MalformedList
+half_a_count : listed_as (1 ∷ 0 ∷ []) ≡ Err MalformedList
 unfolding listed_as
 half_a_count = refl
 
 -- one contact more than there is, and one less
-one_more : listed_as (list 2 (entry 7 1)) ≡ Refused MalformedList
+one_more : listed_as (list 2 (entry 7 1)) ≡ Err MalformedList
 unfolding listed_as entries_from good_at fits contact_at count_of id_at services_at call_at date_at time_at band_at mode_at end_at after text_at number_at plain is_date is_time sound_head sound_texts sound lead char_len long_char second3 second4 valid_up_to utf8
 one_more = refl
 
-one_less : listed_as (list 0 (entry 7 1)) ≡ Refused MalformedList
+one_less : listed_as (list 0 (entry 7 1)) ≡ Err MalformedList
 unfolding listed_as entries_from count_of number_at
 one_less = refl
 
 -- id 0; the service 16; the same id twice; a lower id that comes second
-no_id : listed_as (list 1 (entry 0 1)) ≡ Refused MalformedList
+no_id : listed_as (list 1 (entry 0 1)) ≡ Err MalformedList
 unfolding listed_as entries_from good_at fits contact_at count_of id_at services_at call_at date_at time_at band_at mode_at end_at after text_at number_at sound_head sound
 no_id = refl
 
-unknown_service : listed_as (list 1 (entry 7 16)) ≡ Refused MalformedList
+unknown_service : listed_as (list 1 (entry 7 16)) ≡ Err MalformedList
 unfolding listed_as entries_from good_at fits contact_at count_of id_at services_at call_at date_at time_at band_at mode_at end_at after text_at number_at sound_head sound
 unknown_service = refl
 
-id_twice : listed_as (list 2 (entry 7 1 ++ entry 7 1)) ≡ Refused IdsNotRising
+id_twice : listed_as (list 2 (entry 7 1 ++ entry 7 1)) ≡ Err IdsNotRising
 unfolding listed_as entries_from good_at fits contact_at count_of id_at services_at call_at date_at time_at band_at mode_at end_at after text_at number_at plain is_date is_time sound_head sound_texts sound lead char_len long_char second3 second4 valid_up_to utf8
 id_twice = refl
 
 -- where an entry is malformed and its id does not rise, it is 17
-malformed_first : listed_as (list 2 (entry 7 1 ++ entry 7 16)) ≡ Refused MalformedList
+malformed_first : listed_as (list 2 (entry 7 1 ++ entry 7 16)) ≡ Err MalformedList
 unfolding listed_as entries_from good_at fits contact_at count_of id_at services_at call_at date_at time_at band_at mode_at end_at after text_at number_at plain is_date is_time sound_head sound_texts sound lead char_len long_char second3 second4 valid_up_to utf8
 malformed_first = refl
 
 -- a plan made with mark (1, 7) is fresh against that list, and not against the empty one
-fresh : fresh_against 1 7 (list 1 (entry 7 1)) ≡ Fresh
+fresh : fresh_against 1 7 (list 1 (entry 7 1)) ≡ Ok Fresh
 unfolding fresh_against fresh_by listed_as entries_from good_at fits contact_at count_of id_at services_at call_at date_at time_at band_at mode_at end_at after text_at number_at plain is_date is_time sound_head sound_texts sound lead char_len long_char second3 second4 valid_up_to utf8
 fresh = refl
 
-stale : fresh_against 1 7 (list 0 []) ≡ Stale
+stale : fresh_against 1 7 (list 0 []) ≡ Ok Stale
 unfolding fresh_against fresh_by listed_as entries_from count_of number_at
 stale = refl
 

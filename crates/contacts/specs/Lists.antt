@@ -1,11 +1,11 @@
 -- Which byte strings are contact lists, and what each says; why the others are refused. An entry is read from its place on: a byte past
 -- the end counts as 0, and an entry that reaches past the end is none.
-use Rattle.std.specs.Prelude.{◌≡◌, Bool, true, List, [], ◌∷◌, ℕ, zero, suc, ◌+◌, ◌*◌, ◌≤◌, ◌<◌, length, get_or, take, drop, eqb, leb, ltb}
+use Rattle.refusals.specs.declared.Refusal.{Refusal}
+use Rattle.contacts.specs.declared.Mark.{Mark}
+use Rattle.std.specs.Prelude.{◌≡◌, Bool, true, List, [], ◌∷◌, ℕ, zero, suc, ◌+◌, ◌*◌, ◌≤◌, ◌<◌, length, get_or, take, drop, eqb, leb, ltb, Result, Ok, Err}
 use Rattle.text.specs.Pick.{pick, both}
 use Rattle.refusals.specs.declared.Refusal.TheVariants.{TooLong, OtherVersion, MalformedList, IdsNotRising}
 use Rattle.contacts.specs.Contacts.{Contact, contact, sound, sound_from, list_text}
-use Rattle.contacts.specs.declared.Listed.{Listed}
-use Rattle.contacts.specs.declared.Listed.TheVariants.{Marked, Refused}
 use Rattle.contacts.specs.declared.Freshness.{Freshness}
 use Rattle.contacts.specs.declared.Freshness.TheVariants
 
@@ -65,30 +65,30 @@ unfoldable pub good_at : List ℕ → ℕ → Bool
 good_at s at = both (fits s at) (sound (contact_at s at))
 
 -- k entries of n, from `at` on, after the id `last`: entry by entry 17 and 18, and 17 where they do not end with the list
-unfoldable pub entries_from : List ℕ → ℕ → ℕ → ℕ → ℕ → Listed
-entries_from s n zero at last = pick (eqb at (length s)) (Marked n last) (Refused MalformedList)
+unfoldable pub entries_from : List ℕ → ℕ → ℕ → ℕ → ℕ → Result Mark Refusal
+entries_from s n zero at last = pick (eqb at (length s)) (Ok (record { contacts = n; largest = last })) (Err MalformedList)
 entries_from s n (suc k) at last =
     pick (good_at s at)
-    (pick (ltb last (id_at s at)) (entries_from s n k (end_at s at) (id_at s at)) (Refused IdsNotRising))
-    (Refused MalformedList)
+    (pick (ltb last (id_at s at)) (entries_from s n k (end_at s at) (id_at s at)) (Err IdsNotRising))
+    (Err MalformedList)
 
 -- how many contacts the list says it has
 unfoldable pub count_of : List ℕ → ℕ
 count_of s = number_at s 1 4
 
 -- the list's mark, or why it is none: 1, 17 where it is empty, 16, 17 where it has no whole count, then the entries
-unfoldable pub listed_as : List ℕ → Listed
+unfoldable pub listed_as : List ℕ → Result Mark Refusal
 listed_as s =
-    pick (ltb 16777216 (length s)) (Refused TooLong)
-    (pick (eqb (length s) 0) (Refused MalformedList)
+    pick (ltb 16777216 (length s)) (Err TooLong)
+    (pick (eqb (length s) 0) (Err MalformedList)
     (pick (eqb (get_or s 0 0) 1)
-    (pick (ltb (length s) 5) (Refused MalformedList) (entries_from s (count_of s) (count_of s) 5 0))
-    (Refused OtherVersion)))
+    (pick (ltb (length s) 5) (Err MalformedList) (entries_from s (count_of s) (count_of s) 5 0))
+    (Err OtherVersion)))
 
 -- a count has 32 bits
-abbrev pub Few : Listed → Type 0
-Few (Marked n top) = n < 4294967296
-Few (Refused why) = Unit
+abbrev pub Few : Result Mark Refusal → Type 0
+Few (Ok m) = m.contacts < 4294967296
+Few (Err why) = Unit
 
 -- the contacts of k entries from `at` on; of a list
 unfoldable pub contacts_from : List ℕ → ℕ → ℕ → List Contact
@@ -99,9 +99,9 @@ unfoldable pub contacts_of : List ℕ → List Contact
 contacts_of s = contacts_from s (count_of s) 5
 
 -- ---- whether a plan with this mark is fresh against a list: exactly if the list's mark is the same
-unfoldable pub fresh_by : ℕ → ℕ → Listed → Freshness
-fresh_by count top (Marked n m) = pick (both (eqb count n) (eqb top m)) TheVariants.Fresh TheVariants.Stale
-fresh_by count top (Refused why) = TheVariants.Refused why
+unfoldable pub fresh_by : ℕ → ℕ → Result Mark Refusal → Result Freshness Refusal
+fresh_by count top (Ok m') = Ok (pick (both (eqb count m'.contacts) (eqb top m'.largest)) TheVariants.Fresh TheVariants.Stale)
+fresh_by count top (Err why) = Err why
 
-unfoldable pub fresh_against : ℕ → ℕ → List ℕ → Freshness
+unfoldable pub fresh_against : ℕ → ℕ → List ℕ → Result Freshness Refusal
 fresh_against count top s = fresh_by count top (listed_as s)

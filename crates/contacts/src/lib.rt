@@ -2,7 +2,7 @@
 // done with it; what it is known by is its mark, the count and the largest id.
 #![tactic(auto)]
 
-ghost use Rattle.std.specs.Prelude.{◌≡◌, ◌+◌, ◌*◌, ◌≤◌, ◌<◌, length};
+ghost use Rattle.std.specs.Prelude.{◌≡◌, ◌+◌, ◌*◌, ◌^◌, ◌≤◌, ◌<◌, length};
 ghost use Rattle.contacts.specs.Contacts.{plain, is_date, is_time, sound_head, sound_texts};
 ghost use Rattle.contacts.specs.Lists.{number_at, text_at, after, end_at, id_at, good_at, entries_from, count_of, listed_as, fresh_against, Few};
 
@@ -10,23 +10,29 @@ use decimal::all_digits;
 use refusals::{LONGEST, Refusal};
 
 // What a list is known by: how many contacts, and the largest id.
-#[derive(Clone, Copy)]
-pub enum Listed {
-    Marked { contacts: usize, largest: u64 },
-    Refused(Refusal),
+#[derive(Clone, Copy, PartialEq, Eq)]
+pub struct Mark {
+    pub contacts: usize,
+    pub largest: u64,
 }
 
 #[derive(Clone, Copy)]
 pub enum Freshness {
     Fresh,
     Stale,
-    Refused(Refusal),
 }
 
 // The version of lists that is known, and where the entries begin.
 pub const VERSION: u8 = 1;
 
 pub const ENTRIES: usize = 5;
+
+// How many digits a date has, and a time of day without and with its seconds.
+const DATE: usize = 8;
+
+const SHORT_TIME: usize = 4;
+
+const LONG_TIME: usize = 6;
 
 const LARGEST_ID: u64 = 9_223_372_036_854_775_807;
 
@@ -36,40 +42,29 @@ const EVERY_SERVICE: u8 = 15;
 fn is_plain(t: &[u8]) -> bool
     ensures { result ≡ plain t.now }
 {
-    text::all(t.len() <= 255, text::utf8::is_utf8(t))
+    t.len() <= 255 && text::utf8::is_utf8(t)
 }
 
 pub fn is_date(d: &[u8]) -> bool
     ensures { result ≡ is_date d.now }
 {
-    if d.len() != 8 {
-        return false;
-    }
-    all_digits(d)
+    d.len() == DATE && all_digits(d)
 }
 
 pub fn is_time(t: &[u8]) -> bool
     ensures { result ≡ is_time t.now }
 {
-    if t.len() == 4 {
-        return all_digits(t);
-    }
-    if t.len() == 6 {
-        return all_digits(t);
-    }
-    false
+    (t.len() == SHORT_TIME || t.len() == LONG_TIME) && all_digits(t)
 }
 
 // An id from 1 on, and no unknown service.
 pub fn is_sound_head(id: u64, services: u8) -> bool
     ensures { result ≡ sound_head id services }
 {
-    text::all(
-        text::all(1 <= id, id <= LARGEST_ID),
-        services <= EVERY_SERVICE,
-    )
+    1 <= id && id <= LARGEST_ID && services <= EVERY_SERVICE
 }
 
+// Kept: `text::all`, since a chain of five with `&&` has its proof by each branch.
 pub fn is_sound_texts(call: &[u8], date: &[u8], time: &[u8], band: &[u8], mode: &[u8]) -> bool
     ensures { result ≡ sound_texts call.now date.now time.now band.now mode.now }
 {
@@ -82,35 +77,17 @@ pub fn is_sound_texts(call: &[u8], date: &[u8], time: &[u8], band: &[u8], mode: 
     )
 }
 
-fn wide(b: u8) -> u64
-    ensures value { result ≡ b }
-    ensures upper_bound { result < 256 }
+// The number of the k bytes from `at` on.
+fn number_at(s: &[u8], at: usize, k: usize) -> u64
+    requires { (at ≤ 16780000) × (k ≤ 8) }
+    ensures value { result ≡ number_at s.now at k }
+    ensures upper_bound { result < 256 ^ k }
 {
-    b as u64
-}
-
-// The number of the two bytes, of the four and of the eight, from `at` on.
-fn two_at(s: &[u8], at: usize) -> u64
-    requires { at ≤ 16780000 }
-    ensures value { result ≡ number_at s.now at 2 }
-    ensures upper_bound { result < 65536 }
-{
-    wide(text::byte(s, at)) * 256 + wide(text::byte(s, at + 1))
-}
-
-fn four_at(s: &[u8], at: usize) -> u64
-    requires { at ≤ 16779000 }
-    ensures value { result ≡ number_at s.now at 4 }
-    ensures upper_bound { result < 4294967296 }
-{
-    two_at(s, at) * 65536 + two_at(s, at + 2)
-}
-
-fn eight_at(s: &[u8], at: usize) -> u64
-    requires { at ≤ 16778000 }
-    ensures { result ≡ number_at s.now at 8 }
-{
-    four_at(s, at) * 4294967296 + four_at(s, at + 4)
+    let mut n = 0;
+    for i in 0..k {
+        n = n * 256 + text::byte(s, at + i) as u64;
+    }
+    n
 }
 
 // Of a whole entry one test serves all eight bytes.
@@ -121,9 +98,9 @@ pub fn id_at(s: &[u8], at: usize) -> u64
     let from = at + 2;
     let to = at + 10;
     if s.len() < to {
-        return eight_at(s, from);
+        return number_at(s, from, 8);
     }
-    eight_at(&s[from..to], 0)
+    number_at(&s[from..to], 0, 8)
 }
 
 // The text whose length byte is at p.
@@ -191,7 +168,7 @@ fn is_good(s: &[u8], at: usize) -> bool
     if s.len() < end {
         return false;
     }
-    if at + 2 + two_at(s, at) as usize != end {
+    if at + 2 + number_at(s, at, 2) as usize != end {
         return false;
     }
     if !is_sound_head(id_at(s, at), text::byte(s, at + 10)) {
@@ -200,33 +177,31 @@ fn is_good(s: &[u8], at: usize) -> bool
     are_texts_sound(s, at + 11)
 }
 
-fn check_entries(s: &[u8], count: usize) -> Listed
+fn check_entries(s: &[u8], count: usize) -> Result<Mark, Refusal>
     requires { (5 ≤ length s.now) × (length s.now ≤ 16777216) × (count < 4294967296) }
     ensures value { result ≡ entries_from s.now count count 5 0 }
     ensures few { Few result }
 {
     let mut at = ENTRIES;
     let mut last: u64 = 0;
-    let mut k = 0;
-    while k < count {
+    for k in 0..count {
         if !is_good(s, at) {
-            return Listed::Refused(Refusal::MalformedList);
+            return Err(Refusal::MalformedList);
         }
         let id = id_at(s, at);
         if id <= last {
-            return Listed::Refused(Refusal::IdsNotRising);
+            return Err(Refusal::IdsNotRising);
         }
         at = end_at(s, at);
         last = id;
-        k += 1;
     }
     if at != s.len() {
-        return Listed::Refused(Refusal::MalformedList);
+        return Err(Refusal::MalformedList);
     }
-    Listed::Marked {
+    Ok(Mark {
         contacts: count,
         largest: last,
-    }
+    })
 }
 
 // How many contacts a list says it has.
@@ -234,47 +209,36 @@ pub fn count_of(list: &[u8]) -> usize
     ensures value { result ≡ count_of list.now }
     ensures upper_bound { result < 4294967296 }
 {
-    four_at(list, 1) as usize
+    number_at(list, 1, 4) as usize
 }
 
 // The list's mark, or why it is no list.
-pub fn check(list: &[u8]) -> Listed
+pub fn check(list: &[u8]) -> Result<Mark, Refusal>
     ensures value { result ≡ listed_as list.now }
     ensures few { Few result }
 {
     if LONGEST < list.len() {
-        return Listed::Refused(Refusal::TooLong);
+        return Err(Refusal::TooLong);
     }
-    if list.len() == 0 {
-        return Listed::Refused(Refusal::MalformedList);
+    if list.is_empty() {
+        return Err(Refusal::MalformedList);
     }
     if list[0] != VERSION {
-        return Listed::Refused(Refusal::OtherVersion);
+        return Err(Refusal::OtherVersion);
     }
     if list.len() < ENTRIES {
-        return Listed::Refused(Refusal::MalformedList);
+        return Err(Refusal::MalformedList);
     }
     check_entries(list, count_of(list))
 }
 
 // Whether a plan with this mark still holds against a list, which is checked first.
-pub fn is_fresh(contacts: usize, largest: u64, list: &[u8]) -> Freshness
+pub fn is_fresh(contacts: usize, largest: u64, list: &[u8]) -> Result<Freshness, Refusal>
     ensures { result ≡ fresh_against contacts largest list.now }
 {
-    let listed = check(list);
-    match listed {
-        Listed::Refused(why) => Freshness::Refused(why),
-        Listed::Marked {
-            contacts: count,
-            largest: top,
-        } => {
-            if contacts != count {
-                return Freshness::Stale;
-            }
-            if largest != top {
-                return Freshness::Stale;
-            }
-            Freshness::Fresh
-        }
+    let was = Mark { contacts, largest };
+    if was != check(list)? {
+        return Ok(Freshness::Stale);
     }
+    Ok(Freshness::Fresh)
 }

@@ -1,6 +1,6 @@
 -- A service's bit, and two records that confirm the same thing. Assumes nothing.
 use mathlib.Core.Path.{◌≡◌, refl, sym, ◌∙◌}
-use mathlib.Core.Bool.{Bool, true, false}
+use mathlib.Core.Bool.{Bool, true, false, not}
 use mathlib.Core.List.{List}
 use Prim.Native.Nat.{ℕ, zero, suc, ◌/◌, ◌%◌}
 use native.Mathlib.Nat.{zero-div}
@@ -23,7 +23,7 @@ use Rattle.entries.specs.Row.{Row, call_in, mode_in, band_in, key_in, file_code}
 use Rattle.counted.specs.Counted.{rows_alike, keys_tested, rows_tested, code_in}
 
 -- ---- a bit
-pub bit_none : (byte s : ℕ) → s ≡ 0 → false ≡ has_bit byte s
+pub bit_none : (byte s : ℕ) → s ≡ 0 → not (eqb s 0) ≡ has_bit byte s
 unfolding has_bit
 bit_none byte s e = rw e refl
 
@@ -43,41 +43,40 @@ bit_positive (suc b) s e = lt-ltb 0 (suc b) (omega arith)
 
 -- ---- one test after the other
 module _ (text : List ℕ) (r s : Row) where
-  pub key_other : (p q : ℕ) → p ≡ get_or r 4 0 → q ≡ get_or s 4 0 → (p ≡ q → ⊥) → false ≡ keys_tested text r s
+  pub key_other : (get_or r 4 0 ≡ get_or s 4 0 → ⊥) → eqb (get_or r 4 0) (get_or s 4 0) ≡ keys_tested text r s
   unfolding keys_tested
-  key_other p q ep eq n = rw (ne_eqb (get_or r 4 0) (get_or s 4 0) (λ z. n (ep ∙ z ∙ sym eq))) refl
+  key_other n = rw (ne_eqb (get_or r 4 0) (get_or s 4 0) n) refl
 
-  pub key_same : (p q : ℕ) (x y : Key) (t : Bool) → p ≡ get_or r 4 0 → q ≡ get_or s 4 0 → p ≡ q → x ≡ key_in r → y ≡ key_in s → t ≡ keys_unmatched text x text y → t ≡ keys_tested text r s
+  pub key_same : (x y : Key) (t : Bool) → get_or r 4 0 ≡ get_or s 4 0 → x ≡ key_in r → y ≡ key_in s → t ≡ keys_unmatched text x text y → t ≡ keys_tested text r s
   unfolding keys_tested
-  key_same p q x y t ep eq e ex ey et = rw (eq-eqb (get_or r 4 0) (get_or s 4 0) (sym ep ∙ e ∙ eq), ← ex, ← ey) et
+  key_same x y t e ex ey et = rw (eq-eqb (get_or r 4 0) (get_or s 4 0) e, ← ex, ← ey) et
 
-  module _ (f g : ℕ) (ef : f ≡ get_or s 0 0) (eg : g ≡ get_or r 0 0) where
-    pub other_fate : (g ≡ f → ⊥) → false ≡ rows_tested text r s
-    unfolding rows_tested
-    other_fate n = rw (ne_eqb (get_or r 0 0) (get_or s 0 0) (λ z. n (eg ∙ z ∙ sym ef))) refl
+  pub other_fate : (get_or r 0 0 ≡ get_or s 0 0 → ⊥) → false ≡ rows_tested text r s
+  unfolding rows_tested
+  other_fate n = rw (ne_eqb (get_or r 0 0) (get_or s 0 0) n) refl
 
-    pub same_contact : (x y : ℕ) → g ≡ f → f ≡ 5 → x ≡ get_or r 22 0 → y ≡ get_or s 22 0 → eqb x y ≡ rows_tested text r s
-    unfolding rows_tested
-    same_contact x y e h ex ey = rw (eq-eqb (get_or r 0 0) (get_or s 0 0) (sym eg ∙ e ∙ ef), eq-eqb (get_or s 0 0) 5 (sym ef ∙ h), ex, ey) refl
+  pub same_contact : get_or r 0 0 ≡ get_or s 0 0 → get_or s 0 0 ≡ 5 → eqb (get_or r 22 0) (get_or s 22 0) ≡ rows_tested text r s
+  unfolding rows_tested
+  same_contact e h = rw (eq-eqb (get_or r 0 0) (get_or s 0 0) e, eq-eqb (get_or s 0 0) 5 h) refl
 
-    pub same_key : (t : Bool) → g ≡ f → (f ≡ 5 → ⊥) → t ≡ keys_tested text r s → t ≡ rows_tested text r s
-    unfolding rows_tested
-    same_key t e n et = rw (eq-eqb (get_or r 0 0) (get_or s 0 0) (sym eg ∙ e ∙ ef), ne_eqb (get_or s 0 0) 5 (λ z. n (ef ∙ z))) et
+  pub same_key : (t : Bool) → get_or r 0 0 ≡ get_or s 0 0 → (get_or s 0 0 ≡ 5 → ⊥) → t ≡ keys_tested text r s → t ≡ rows_tested text r s
+  unfolding rows_tested
+  same_key t e n et = rw (eq-eqb (get_or r 0 0) (get_or s 0 0) e, ne_eqb (get_or s 0 0) 5 n) et
 
-  module _ (v p : ℕ) (t : Bool) (ep : p ≡ get_or r 24 0) (et : t ≡ has_bit p v) where
-    pub not_served : t ≡ false → false ≡ both (rows_tested text r s) (has_bit (get_or r 24 0) v)
-    not_served n = rw (← ep, ← et, n) (sym (both_no (rows_tested text r s)))
+  module _ (v : ℕ) (t : Bool) (et : t ≡ has_bit (get_or r 24 0) v) where
+    pub not_served : t ≡ false → t ≡ both (rows_tested text r s) (has_bit (get_or r 24 0) v)
+    not_served n = n ∙ rw (← et, n) (sym (both_no (rows_tested text r s)))
 
     pub served : (u : Bool) → t ≡ true → u ≡ rows_tested text r s → u ≡ both (rows_tested text r s) (has_bit (get_or r 24 0) v)
-    served u n eu = rw (← ep, ← et, n) (eu ∙ sym (both_yes (rows_tested text r s)))
+    served u n eu = rw (← et, n) (eu ∙ sym (both_yes (rows_tested text r s)))
 
-pub code_contact : (r : Row) (f p : ℕ) → f ≡ get_or r 0 0 → f ≡ 5 → p ≡ get_or r 22 0 → p ≡ code_in r
+pub code_contact : (r : Row) (p : ℕ) → get_or r 0 0 ≡ 5 → p ≡ get_or r 22 0 → p ≡ code_in r
 unfolding code_in
-code_contact r f p ef h ep = rw (eq-eqb (get_or r 0 0) 5 (sym ef ∙ h)) ep
+code_contact r p h ep = rw (eq-eqb (get_or r 0 0) 5 h) ep
 
-pub code_key : (r : Row) (f p : ℕ) → f ≡ get_or r 0 0 → (f ≡ 5 → ⊥) → p ≡ get_or r 4 0 → p ≡ code_in r
+pub code_key : (r : Row) (p : ℕ) → (get_or r 0 0 ≡ 5 → ⊥) → p ≡ get_or r 4 0 → p ≡ code_in r
 unfolding code_in
-code_key r f p ef h ep = rw (ne_eqb (get_or r 0 0) 5 (λ z. h (ef ∙ z))) ep
+code_key r p h ep = rw (ne_eqb (get_or r 0 0) 5 h) ep
 
 -- ---- records that are alike have one code
 abbrev pub Coded : List ℕ → Row → Type 0

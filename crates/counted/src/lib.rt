@@ -7,62 +7,46 @@ ghost use Rattle.plan.specs.Confirmed.{has_bit};
 ghost use Rattle.counted.specs.Counted.{keys_tested, rows_tested, code_in, seen, Marked, with_services, with_head, marked};
 
 use entries::{key_in, number_in, with_number};
-
-const CONFIRMED: usize = 5;
+use plan::CONFIRMED;
 
 // Bit s of the byte.
 pub fn has_service(byte: u32, s: u32) -> bool
     ensures { result ≡ has_bit byte s }
 {
-    if s == 0 {
-        return false;
-    }
-    byte / s % 2 == 1
+    s != 0 && byte / s % 2 == 1
 }
 
 // The code, then the texts.
 fn is_key(text: &[u8], r: [u32; 28], s: [u32; 28]) -> bool
     ensures { result ≡ keys_tested text.now r s }
 {
-    if number_in(r, 4) != number_in(s, 4) {
-        return false;
-    }
-    dedupe::same_unmatched(text, key_in(r), text, key_in(s))
+    r[4] == s[4] && dedupe::same_unmatched(text, key_in(r), text, key_in(s))
 }
 
 fn is_alike(text: &[u8], r: [u32; 28], s: [u32; 28]) -> bool
     ensures { result ≡ rows_tested text.now r s }
 {
-    let fate = number_in(s, 0);
-    if number_in(r, 0) != fate {
+    let fate = s[0];
+    if r[0] != fate {
         return false;
     }
     if fate == CONFIRMED {
-        return number_in(r, 22) == number_in(s, 22);
+        return r[22] == s[22];
     }
     is_key(text, r, s)
-}
-
-fn services_in(r: [u32; 28]) -> u32
-    ensures { result ≡ get_or r 24 0 }
-{
-    r[24]
 }
 
 // The service counted at the record, and it confirms what the other one does.
 fn is_hit(text: &[u8], r: [u32; 28], k: [u32; 28], s: u32) -> bool
     ensures { result ≡ both (rows_tested text.now r k) (has_bit (get_or r 24 0) s) }
 {
-    if has_service(services_in(r), s) {
-        return is_alike(text, r, k);
-    }
-    false
+    has_service(r[24], s) && is_alike(text, r, k)
 }
 
 fn code_in(r: [u32; 28]) -> usize
     ensures { result ≡ code_in r }
 {
-    if number_in(r, 0) == CONFIRMED {
+    if r[0] == CONFIRMED {
         return number_in(r, 22);
     }
     number_in(r, 4)
@@ -74,6 +58,7 @@ pub fn is_seen(text: &[u8], rows: &[[u32; 28]], n: usize, k: usize, s: u32) -> b
     ensures { result ≡ seen text.now rows.now k s }
 {
     let b = code_in(rows[k]) % n;
+    // Kept: a chain is followed, whose length is no number.
     let mut at = number_in(rows[b], 25);
     while at != 0 {
         let i = at - 1;

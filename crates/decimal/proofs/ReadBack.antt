@@ -1,4 +1,5 @@
 -- A number that is written in decimal reads back. Assumes nothing.
+use Rattle.std.specs.Prelude.{Some}
 use mathlib.Core.Path.{◌≡◌, refl, sym, ap, ◌∙◌, subst}
 use mathlib.Core.Bool.{Bool, true, false}
 use mathlib.Core.List.{List, [], ◌∷◌, ◌++◌}
@@ -12,7 +13,6 @@ use Rattle.text.specs.Pick.{pick}
 use Rattle.text.proofs.AppendLaws.{Ascii}
 use Rattle.decimal.specs.Decimal.{all_digits, number, digits_after, digits_of, leads, unsigned_of}
 use Rattle.decimal.specs.Digits.{digits, decimal}
-use Rattle.decimal.specs.declared.Unsigned.TheVariants.{Is}
 
 -- every byte is a digit
 abbrev pub Digits : List ℕ → Type 0
@@ -68,7 +68,7 @@ unfolding leads
 no_sign b [] h l d = absurd (omega arith)
 no_sign b (x ∷ xs) h l d = ne_eqb x b (λ e. omega (arith, d.0.0))
 
-pub read_back_lem : (n : ℕ) → n < 2 ^ 64 → unsigned_of (decimal n) ≡ Is n
+pub read_back_lem : (n : ℕ) → n < 2 ^ 64 → unsigned_of (decimal n) ≡ Some n
 unfolding decimal unsigned_of digits_of digits_after
 read_back_lem n h =
     simp
@@ -77,5 +77,5 @@ read_back_lem n h =
 -- so no two numbers are written alike
 pub decimal_once : (m n : ℕ) → m < 2 ^ 64 → n < 2 ^ 64 → decimal m ≡ decimal n → m ≡ n
 decimal_once m n p q e =
-    let r : Is m ≡ Is n = sym (read_back_lem m p) ∙ ap unsigned_of e ∙ read_back_lem n q in
+    let r : Some m ≡ Some n = sym (read_back_lem m p) ∙ ap unsigned_of e ∙ read_back_lem n q in
     cc

@@ -2,64 +2,51 @@
 #![tactic(auto)]
 
 ghost use Rattle.std.specs.Prelude.{◌≡◌};
+ghost use Rattle.text.specs.Pick.{pick};
 ghost use Rattle.decimal.specs.Decimal.{all_digits, digits_of, unsigned_of, above_zero, below_zero, signed_of};
 
-#[derive(Clone, Copy)]
-pub enum Unsigned {
-    Is(u64),
-    Not,
-}
+// 2 ^ 63: no number above zero has this size, and one below zero has it at most.
+const HALF: u64 = 9_223_372_036_854_775_808;
 
 // A number by its size, and whether it is below zero; zero is not.
-#[derive(Clone, Copy)]
-pub enum Signed {
-    Of { negative: bool, size: u64 },
-    Bad,
+#[derive(Clone, Copy, PartialEq, Eq)]
+pub struct Signed {
+    pub negative: bool,
+    pub size: u64,
 }
 
 // Every byte a digit.
 pub fn all_digits(s: &[u8]) -> bool
     ensures { result ≡ all_digits s.now }
 {
-    let mut i = 0;
-    while i < s.len() {
-        if !text::inside(s[i], 0x30, 0x39) {
+    for &b in s {
+        if !text::inside(b, 0x30, 0x39) {
             return false;
         }
-        i += 1;
     }
     true
 }
 
 // Digits alone, at least one.
-pub fn parse_digits(s: &[u8]) -> Unsigned
+pub fn parse_digits(s: &[u8]) -> Option<u64>
     ensures { result ≡ digits_of s.now }
 {
-    if s.len() == 0 {
-        return Unsigned::Not;
+    if s.is_empty() {
+        return None;
     }
     let mut n: u64 = 0;
-    let mut i = 0;
-    while i < s.len() {
-        let d = s[i];
-        if d < 0x30 {
-            return Unsigned::Not;
+    for &d in s {
+        if d < 0x30 || 0x39 < d {
+            return None;
         }
-        if 0x39 < d {
-            return Unsigned::Not;
-        }
-        let v = (d - 0x30) as u64;
-        if (18446744073709551615 - v) / 10 < n {
-            return Unsigned::Not;
-        }
-        n = n * 10 + v;
-        i += 1;
+        n = n.checked_mul(10)?.checked_add(u64::from(d - 0x30))?;
     }
-    Unsigned::Is(n)
+    Some(n)
 }
 
 // As Rust's `parse::<u64>`: a plus may stand before the digits.
-pub fn parse_unsigned(s: &[u8]) -> Unsigned
+#[tactic(auto, using(crate::proofs::SignLaws::with_plus, crate::proofs::SignLaws::without_plus))]
+pub fn parse_unsigned(s: &[u8]) -> Option<u64>
     ensures { result ≡ unsigned_of s.now }
 {
     if text::byte(s, 0) == 0x2B {
@@ -69,50 +56,29 @@ pub fn parse_unsigned(s: &[u8]) -> Unsigned
     }
 }
 
-#[tactic(auto, using(crate::proofs::SignLaws::not_above, crate::proofs::SignLaws::above_fits, crate::proofs::SignLaws::above_all))]
-fn above_zero(n: Unsigned) -> Signed
-    ensures { result ≡ above_zero n }
+#[tactic(auto, unfolding(crate::specs::Decimal::above_zero, crate::specs::Decimal::below_zero))]
+fn with_sign(negative: bool, n: Option<u64>) -> Option<Signed>
+    ensures { result ≡ pick negative (below_zero n) (above_zero n) }
 {
-    match n {
-        Unsigned::Not => Signed::Bad,
-        Unsigned::Is(size) => {
-            if size < 9223372036854775808 {
-                Signed::Of {
-                    negative: false,
-                    size: size,
-                }
-            } else {
-                Signed::Bad
-            }
-        }
-    }
-}
-
-fn below_zero(n: Unsigned) -> Signed
-    ensures { result ≡ below_zero n }
-{
-    match n {
-        Unsigned::Not => Signed::Bad,
-        Unsigned::Is(size) => {
-            if size <= 9223372036854775808 {
-                Signed::Of {
-                    negative: 0 < size,
-                    size: size,
-                }
-            } else {
-                Signed::Bad
-            }
-        }
+    let size = n?;
+    if size < HALF || (negative && size == HALF) {
+        Some(Signed {
+            negative: negative && 0 < size,
+            size,
+        })
+    } else {
+        None
     }
 }
 
 // As Rust's `parse::<i64>`: a plus or a minus may stand before the digits.
-pub fn parse_signed(s: &[u8]) -> Signed
+#[tactic(auto, using(crate::proofs::SignLaws::with_minus, crate::proofs::SignLaws::without_minus))]
+pub fn parse_signed(s: &[u8]) -> Option<Signed>
     ensures { result ≡ signed_of s.now }
 {
     if text::byte(s, 0) == 0x2D {
-        below_zero(parse_digits(&s[1..]))
+        with_sign(true, parse_digits(&s[1..]))
     } else {
-        above_zero(parse_unsigned(s))
+        with_sign(false, parse_unsigned(s))
     }
 }

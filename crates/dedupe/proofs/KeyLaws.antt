@@ -14,18 +14,6 @@ use Rattle.letters.specs.Same.{same}
 use Rattle.letters.proofs.SameLaws.{lengths_differ}
 use Rattle.dedupe.specs.Views.{cased}
 
--- ---- a choice by a flag, and by a test whose answer b is known
-module _ {A : Type 0} (b : Bool) (x y r : A) where
-  pub chosen : b ≡ true → r ≡ x → r ≡ pick b x y
-  chosen h e = rw h e
-
-module _ {A : Type 0} (t b : Bool) (x y : A) (e : b ≡ t) where
-  pub tested : (r : A) → b ≡ true → r ≡ x → r ≡ pick t x y
-  tested r h q = rw (← e, h) q
-
-  pub failed : b ≡ false → y ≡ pick t x y
-  failed h = rw (← e, h) refl
-
 -- ---- two texts, each as it stands or in capitals
 cased_length : (r : Bool) (xs : List ℕ) → length (cased r xs) ≡ length xs
 unfolding cased

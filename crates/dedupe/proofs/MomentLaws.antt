@@ -1,5 +1,6 @@
 -- The moment that two places name is the one that their parts of the text name: digits have no case, and no entry is a date or a time.
 -- Assumes nothing.
+use Rattle.std.specs.Prelude.{Option, Some, None}
 use mathlib.Core.Path.{◌≡◌, refl, sym, ap, ◌∙◌}
 use mathlib.Core.Bool.{Bool, true, false}
 use mathlib.Core.List.{List, [], ◌∷◌}
@@ -15,8 +16,6 @@ use Rattle.text.proofs.BoolLaws.{both_left, both_right, both_no}
 use Rattle.letters.specs.Capitals.{raised, capitals}
 use Rattle.letters.proofs.SpaceLaws.{trim_capitals}
 use Rattle.decimal.specs.Decimal.{all_digits, digits_after, digits_of}
-use Rattle.decimal.specs.declared.Unsigned.{Unsigned}
-use Rattle.decimal.specs.declared.Unsigned.TheVariants.{Is, Not}
 use Rattle.tables.specs.Table.{entry}
 use Rattle.tables.specs.Bands.{bands, band_names}
 use Rattle.tables.specs.Modes.{modes, mode_names}
@@ -24,7 +23,6 @@ use Rattle.tables.specs.Place.{place, part, or_empty, bytes}
 use Rattle.tables.specs.declared.Place.{Place}
 use Rattle.tables.proofs.Tested.{all}
 use Rattle.times.specs.Moments.{date_of, clock_of, moment_of}
-use Rattle.times.specs.declared.Moment.{Moment}
 use Rattle.dedupe.proofs.PartLaws.{entry_all, by_part}
 
 -- ---- digits have no case
@@ -89,13 +87,13 @@ unfolding clock_of
 clock_capitals xs = rw (trim_capitals xs, length-map (trimmed xs) raised, digits_capitals (trimmed xs)) refl
 
 -- ---- no entry is a date or a time
-abbrev is_not : Unsigned → Bool
-is_not (Is n) = false
-is_not Not = true
+abbrev is_not : Option ℕ → Bool
+is_not (Some n) = false
+is_not None = true
 
-is_not_lem : (u : Unsigned) → is_not u ≡ true → u ≡ Not
-is_not_lem (Is n) e = absurd (let z : ◌≡◌ {A = ℕ} 0 1 = cc in omega arith)
-is_not_lem Not e = refl
+is_not_lem : (u : Option ℕ) → is_not u ≡ true → u ≡ None
+is_not_lem (Some n) e = absurd (let z : ◌≡◌ {A = ℕ} 0 1 = cc in omega arith)
+is_not_lem None e = refl
 
 abbrev timeless : List ℕ → Bool
 timeless x = both (is_not (date_of (trimmed x))) (is_not (clock_of (trimmed x)))
@@ -138,7 +136,7 @@ module _ (text : List ℕ) where
       (λ a. no_clock (or_empty (entry mode_names a)) (entry_all timeless timeless_empty mode_names timeless_modes a))
       text
 
-  pub moment_of_parts : (p q : Place) (x y : List ℕ) (r : Moment) → x ≡ part text p → y ≡ part text q → r ≡ moment_of x y
+  pub moment_of_parts : (p q : Place) (x y : List ℕ) (r : Option ℕ) → x ≡ part text p → y ≡ part text q → r ≡ moment_of x y
       → r ≡ moment_of (bytes text p) (bytes text q)
   unfolding moment_of
   moment_of_parts p q x y r ex ey er =

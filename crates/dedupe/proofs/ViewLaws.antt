@@ -1,4 +1,4 @@
--- What a test looks at is what a place stands for; and the tests on keys, one text after the other. Assumes nothing.
+-- What a test looks at is what a place stands for. Assumes nothing.
 use mathlib.Core.Path.{◌≡◌, refl, sym}
 use mathlib.Core.Bool.{Bool, true, false}
 use mathlib.Core.List.{List, []}
@@ -6,16 +6,12 @@ use Prim.Native.Nat.{ℕ, zero, suc, ◌≤◌}
 use native.Mathlib.Omega.{arith}
 use lib.ListN.{length, take, drop}
 use lib.Dec.{eqb, leb}
-use lib.IntN.{ℤ}
-use mir.Syntax.{w64}
-use mir.Val.{SFits, to_z, of_z}
-use mir.ValLaws.{to_z-of_z}
 use borrow.Author.Tests.{leb-true, ne_eqb}
 use Rattle.text.specs.Pick.{pick, either}
 use Rattle.text.specs.Space.{trimmed}
 use Rattle.text.proofs.BoolLaws.{either_none}
 use Rattle.letters.specs.Capitals.{capitals}
-use Rattle.letters.specs.Same.{same, same_raised}
+use Rattle.letters.specs.Same.{same}
 use Rattle.letters.proofs.CapitalLaws.{capitals_twice}
 use Rattle.letters.proofs.SpaceLaws.{trim_capitals}
 use Rattle.tables.specs.Table.{entry}
@@ -26,12 +22,7 @@ use Rattle.tables.specs.declared.Place.{Place}
 use Rattle.tables.specs.declared.Name.{Name}
 use Rattle.tables.proofs.Tested.{all}
 use Rattle.tables.proofs.EntryLaws.{spelled_out}
-use Rattle.times.specs.Window.{is_within}
-use Rattle.times.specs.declared.Moment.{Moment}
-use Rattle.dedupe.specs.Keys.{in_log, in_file, natural_key, unmatched, duplicate}
-use Rattle.dedupe.specs.Views.{cased, view, viewed, keys_in_log, keys_in_file, keys_natural, keys_unmatched, keys_duplicate}
-use Rattle.dedupe.specs.declared.Key.{Key}
-use Rattle.dedupe.specs.declared.Test.{Test}
+use Rattle.dedupe.specs.Views.{cased, view, viewed}
 use Rattle.dedupe.proofs.PartLaws.{entry_all}
 
 -- ---- the names of entries have at most twelve bytes, so they are spelled out whole
@@ -119,111 +110,3 @@ module _ (ft st rs : Bool) (a b : List ℕ) (p q : Place) where
   bytes_alike n m r en em er =
       let h : r ≡ same (viewed ft rs a p (take (name_of p).len (name_of p).bytes)) (viewed st rs b q (take (name_of q).len (name_of q).bytes)) = rw (en, em) at er in
       rw (view_at ft rs a p.kind p.start p.len, view_at st rs b q.kind q.start q.len) at h
-
--- ---- the tests on keys: what was found of the call, of the mode and of the band
-module _ (a : List ℕ) (k : Key) (b : List ℕ) (o : Key) where
-  module _ (t : Test) (c : Bool) (et : t ≡ record { first = false; second = false; raised = true }) (ec : c ≡ same (view t.first t.raised (bytes a k.call)) (view t.second t.raised (bytes b o.call))) where
-    pub log_call : c ≡ false → false ≡ keys_in_log a k b o
-    unfolding keys_in_log in_log same_raised cased
-    log_call h =
-        let e : c ≡ same (view false true (bytes a k.call)) (view false true (bytes b o.call)) = rw et at ec in
-        rw (← e, h) refl
-
-    module _ (u : Test) (m : Bool) (h : c ≡ true) (eu : u ≡ record { first = false; second = false; raised = false }) (em : m ≡ same (view u.first u.raised (bytes a k.mode)) (view u.second u.raised (bytes b o.mode))) where
-      pub log_mode : m ≡ false → false ≡ keys_in_log a k b o
-      unfolding keys_in_log in_log same_raised cased
-      log_mode g =
-          let e : c ≡ same (view false true (bytes a k.call)) (view false true (bytes b o.call)) = rw et at ec in
-          let d : m ≡ same (view false false (bytes a k.mode)) (view false false (bytes b o.mode)) = rw eu at em in
-          rw (← e, h, ← d, g) refl
-
-      pub log_band : (v : Test) (r : Bool) → m ≡ true → v ≡ record { first = false; second = false; raised = false } → r ≡ same (view v.first v.raised (bytes a k.band)) (view v.second v.raised (bytes b o.band))
-          → r ≡ keys_in_log a k b o
-      unfolding keys_in_log in_log same_raised cased
-      log_band v r g ev eb =
-          let e : c ≡ same (view false true (bytes a k.call)) (view false true (bytes b o.call)) = rw et at ec in
-          let d : m ≡ same (view false false (bytes a k.mode)) (view false false (bytes b o.mode)) = rw eu at em in
-          let z : r ≡ same (view false false (bytes a k.band)) (view false false (bytes b o.band)) = rw ev at eb in
-          rw (← e, h, ← d, g) z
-
-  module _ (t : Test) (c : Bool) (et : t ≡ record { first = true; second = true; raised = true }) (ec : c ≡ same (view t.first t.raised (bytes a k.call)) (view t.second t.raised (bytes b o.call))) where
-    pub file_call : c ≡ false → false ≡ keys_in_file a k b o
-    unfolding keys_in_file in_file same_raised cased
-    file_call h =
-        let e : c ≡ same (view true true (bytes a k.call)) (view true true (bytes b o.call)) = rw et at ec in
-        rw (← e, h) refl
-
-    module _ (u : Test) (m : Bool) (h : c ≡ true) (eu : u ≡ record { first = true; second = true; raised = false }) (em : m ≡ same (view u.first u.raised (bytes a k.mode)) (view u.second u.raised (bytes b o.mode))) where
-      pub file_mode : m ≡ false → false ≡ keys_in_file a k b o
-      unfolding keys_in_file in_file same_raised cased
-      file_mode g =
-          let e : c ≡ same (view true true (bytes a k.call)) (view true true (bytes b o.call)) = rw et at ec in
-          let d : m ≡ same (view true false (bytes a k.mode)) (view true false (bytes b o.mode)) = rw eu at em in
-          rw (← e, h, ← d, g) refl
-
-      pub file_band : (v : Test) (r : Bool) → m ≡ true → v ≡ record { first = true; second = true; raised = false } → r ≡ same (view v.first v.raised (bytes a k.band)) (view v.second v.raised (bytes b o.band))
-          → r ≡ keys_in_file a k b o
-      unfolding keys_in_file in_file same_raised cased
-      file_band v r g ev eb =
-          let e : c ≡ same (view true true (bytes a k.call)) (view true true (bytes b o.call)) = rw et at ec in
-          let d : m ≡ same (view true false (bytes a k.mode)) (view true false (bytes b o.mode)) = rw eu at em in
-          let z : r ≡ same (view true false (bytes a k.band)) (view true false (bytes b o.band)) = rw ev at eb in
-          rw (← e, h, ← d, g) z
-
-  module _ (t : Test) (c : Bool) (et : t ≡ record { first = true; second = true; raised = true }) (ec : c ≡ same (view t.first t.raised (bytes a k.call)) (view t.second t.raised (bytes b o.call))) where
-    pub unmatched_call : c ≡ false → false ≡ keys_unmatched a k b o
-    unfolding keys_unmatched unmatched same_raised cased
-    unmatched_call h =
-        let e : c ≡ same (view true true (bytes a k.call)) (view true true (bytes b o.call)) = rw et at ec in
-        rw (← e, h) refl
-
-    module _ (u : Test) (m : Bool) (h : c ≡ true) (eu : u ≡ record { first = false; second = false; raised = false }) (em : m ≡ same (view u.first u.raised (bytes a k.band)) (view u.second u.raised (bytes b o.band))) where
-      pub unmatched_band : m ≡ false → false ≡ keys_unmatched a k b o
-      unfolding keys_unmatched unmatched same_raised cased
-      unmatched_band g =
-          let e : c ≡ same (view true true (bytes a k.call)) (view true true (bytes b o.call)) = rw et at ec in
-          let d : m ≡ same (view false false (bytes a k.band)) (view false false (bytes b o.band)) = rw eu at em in
-          rw (← e, h, ← d, g) refl
-
-      pub unmatched_mode : (v : Test) (r : Bool) → m ≡ true → v ≡ record { first = false; second = false; raised = false } → r ≡ same (view v.first v.raised (bytes a k.mode)) (view v.second v.raised (bytes b o.mode))
-          → r ≡ keys_unmatched a k b o
-      unfolding keys_unmatched unmatched same_raised cased
-      unmatched_mode v r g ev eb =
-          let e : c ≡ same (view true true (bytes a k.call)) (view true true (bytes b o.call)) = rw et at ec in
-          let d : m ≡ same (view false false (bytes a k.band)) (view false false (bytes b o.band)) = rw eu at em in
-          let z : r ≡ same (view false false (bytes a k.mode)) (view false false (bytes b o.mode)) = rw ev at eb in
-          rw (← e, h, ← d, g) z
-
-  module _ (t : Test) (c : Bool) (et : t ≡ record { first = false; second = true; raised = true }) (ec : c ≡ same (view t.first t.raised (bytes a k.call)) (view t.second t.raised (bytes b o.call))) where
-    pub natural_call : c ≡ false → false ≡ keys_natural a k b o
-    unfolding keys_natural natural_key same_raised cased
-    natural_call h =
-        let e : c ≡ same (view false true (bytes a k.call)) (view true true (bytes b o.call)) = rw et at ec in
-        rw (← e, h) refl
-
-    module _ (u : Test) (m : Bool) (h : c ≡ true) (eu : u ≡ record { first = false; second = false; raised = false }) (em : m ≡ same (view u.first u.raised (bytes a k.mode)) (view u.second u.raised (bytes b o.mode))) where
-      pub natural_mode : m ≡ false → false ≡ keys_natural a k b o
-      unfolding keys_natural natural_key same_raised cased
-      natural_mode g =
-          let e : c ≡ same (view false true (bytes a k.call)) (view true true (bytes b o.call)) = rw et at ec in
-          let d : m ≡ same (view false false (bytes a k.mode)) (view false false (bytes b o.mode)) = rw eu at em in
-          rw (← e, h, ← d, g) refl
-
-      pub natural_band : (v : Test) (r : Bool) → m ≡ true → v ≡ record { first = false; second = false; raised = false } → r ≡ same (view v.first v.raised (bytes a k.band)) (view v.second v.raised (bytes b o.band))
-          → r ≡ keys_natural a k b o
-      unfolding keys_natural natural_key same_raised cased
-      natural_band v r g ev eb =
-          let e : c ≡ same (view false true (bytes a k.call)) (view true true (bytes b o.call)) = rw et at ec in
-          let d : m ≡ same (view false false (bytes a k.mode)) (view false false (bytes b o.mode)) = rw eu at em in
-          let z : r ≡ same (view false false (bytes a k.band)) (view false false (bytes b o.band)) = rw ev at eb in
-          rw (← e, h, ← d, g) z
-
-  module _ (at when : Moment) (window : ℤ) (c : Bool) (ec : c ≡ keys_natural a k b o) where
-    pub other_key : c ≡ false → false ≡ keys_duplicate a k b o at when window
-    unfolding keys_duplicate duplicate keys_natural
-    other_key h = rw (← ec, h) refl
-
-    -- a signed number that is passed on is read back from its bits
-    pub same_key : (r : Bool) → SFits w64 window → c ≡ true → r ≡ is_within at when (to_z w64 (of_z w64 window)) → r ≡ keys_duplicate a k b o at when window
-    unfolding keys_duplicate duplicate keys_natural
-    same_key r s h e = rw (← ec, h) (rw (to_z-of_z w64 window s) at e)

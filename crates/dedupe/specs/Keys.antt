@@ -1,11 +1,10 @@
 -- When two contacts have the same call, mode and band: four tests, which differ in what they trim. The case of a call's letters never
 -- counts, that of a mode and a band always does.
-use Rattle.std.specs.Prelude.{ℕ, Bool, List, ℤ}
+use Rattle.std.specs.Prelude.{ℕ, Bool, List, ℤ, Option}
 use Rattle.text.specs.Pick.{both}
 use Rattle.text.specs.Space.{trimmed}
 use Rattle.letters.specs.Same.{same, same_raised}
 use Rattle.times.specs.Window.{is_within}
-use Rattle.times.specs.declared.Moment.{Moment}
 
 module _ (call mode band : List ℕ) (call' mode' band' : List ℕ) where
   -- the match in the log: nothing is trimmed
@@ -25,5 +24,5 @@ module _ (call mode band : List ℕ) (call' mode' band' : List ℕ) where
   unmatched = both (same_raised (trimmed call) (trimmed call')) (both (same band band') (same mode mode'))
 
   -- a duplicate has the same natural key, within the window
-  unfoldable pub duplicate : Moment → Moment → ℤ → Bool
+  unfoldable pub duplicate : Option ℕ → Option ℕ → ℤ → Bool
   duplicate at at' window = both natural_key (is_within at at' window)

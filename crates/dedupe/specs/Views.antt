@@ -1,10 +1,9 @@
 -- A key over a text, and a text of it as a test looks at it: trimmed or not, in capitals or not.
-use Rattle.std.specs.Prelude.{ℕ, Bool, true, false, List, ℤ, eqb}
+use Rattle.std.specs.Prelude.{ℕ, Bool, true, false, List, ℤ, eqb, Option}
 use Rattle.text.specs.Pick.{pick, either}
 use Rattle.text.specs.Space.{trimmed}
 use Rattle.letters.specs.Capitals.{capitals}
 use Rattle.tables.specs.Place.{in_text, part, bytes}
-use Rattle.times.specs.declared.Moment.{Moment}
 use Rattle.tables.specs.declared.Place.{Place}
 use Rattle.dedupe.specs.Keys.{in_log, in_file, natural_key, unmatched, duplicate}
 use Rattle.dedupe.specs.declared.Key.{Key}
@@ -36,6 +35,6 @@ module _ (a : List ℕ) (k : Key) (b : List ℕ) (o : Key) where
   keys_unmatched =
       unmatched (bytes a k.call) (bytes a k.mode) (bytes a k.band) (bytes b o.call) (bytes b o.mode) (bytes b o.band)
 
-  unfoldable pub keys_duplicate : Moment → Moment → ℤ → Bool
+  unfoldable pub keys_duplicate : Option ℕ → Option ℕ → ℤ → Bool
   keys_duplicate at at' window =
       duplicate (bytes a k.call) (bytes a k.mode) (bytes a k.band) (bytes b o.call) (bytes b o.mode) (bytes b o.band) at at' window

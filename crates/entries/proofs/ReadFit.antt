@@ -1,4 +1,7 @@
 -- Each record that was read has a field, and at most 256 of them; and there are at most 65,535 records. Assumes nothing.
+use Rattle.std.specs.Prelude.{⊤, Result, Ok, Err}
+use Rattle.tags.specs.declared.Tag.TheVariants.{End, Eof, Eoh, Eor, Field}
+use Rattle.tags.specs.declared.Tag.{Tag}
 use mathlib.Core.Path.{◌≡◌, refl}
 use mathlib.Core.Bool.{Bool, true, false}
 use mathlib.Core.List.{List, [], ◌∷◌, ◌++◌}
@@ -12,11 +15,7 @@ use Rattle.text.specs.Run.{Next, go, stop, follow, steps, run}
 use Rattle.refusals.specs.Refusals.{of_text}
 use Rattle.refusals.specs.declared.Refusal.{Refusal}
 use Rattle.refusals.specs.declared.Refusal.TheVariants.{ManyNames, ManyRecords, FewRows}
-use Rattle.refusals.specs.declared.Verdict.{Verdict}
-use Rattle.refusals.specs.declared.Verdict.TheVariants.{Accepted, Refused as RefusedText}
 use Rattle.tags.specs.Tags.{tag_at}
-use Rattle.tags.specs.declared.Tag.{Tag}
-use Rattle.tags.specs.declared.Tag.TheVariants.{End, Eoh, Eor, Eof, Field, Refused}
 use Rattle.adif.specs.Records.{field, Turn, on, no, then, total, put, close, finish, act, records, refused}
 use Rattle.adif.specs.Reading.{Row, RowsRead, State, row_name, rows, onto, read_by, accepted, read_tags, read_text}
 
@@ -78,14 +77,14 @@ module _ (s : List ℕ) (room : ℕ) where
   onto_fit next (on hand done) h = h
   onto_fit next (no w) h = tt
 
-  read_fit : (hand : List Row) (done : List (List Row)) → Held hand done → (t : Tag) → FitNext (read_by s room hand done t)
-  read_fit hand done h End = finish_fit (length s) hand done h
-  read_fit hand done h Eof = finish_fit (length s) hand done h
-  read_fit hand done h (Eoh next) = (omega arith, h.1)
-  read_fit hand done h (Eor i next) = onto_fit next (close (rows s i) room hand done) (close_fit i hand done h)
-  read_fit hand done h (Field i a k v n) =
+  read_fit : (hand : List Row) (done : List (List Row)) → Held hand done → (t : Result Tag Refusal) → FitNext (read_by s room hand done t)
+  read_fit hand done h (Ok End) = finish_fit (length s) hand done h
+  read_fit hand done h (Ok Eof) = finish_fit (length s) hand done h
+  read_fit hand done h (Ok (Eoh next)) = (omega arith, h.1)
+  read_fit hand done h (Ok (Eor i next)) = onto_fit next (close (rows s i) room hand done) (close_fit i hand done h)
+  read_fit hand done h (Ok (Field i a k v n)) =
       onto_fit (v + n) (act (rows s i) room hand done (field (a ∷ k ∷ v ∷ n ∷ []))) (field_fit i hand done (a ∷ k ∷ v ∷ n ∷ []) h)
-  read_fit hand done h (Refused w) = tt
+  read_fit hand done h (Err w) = tt
 
   abbrev step : ℕ → State → Next State RowsRead
   step at st = read_by s room st.0 st.1 (tag_at s at)
@@ -108,6 +107,6 @@ module _ (s : List ℕ) (room : ℕ) where
   unfolding read_text
   text_fit = by (of_text s)
     where
-      by : (v : Verdict) → FitRead (accepted v (read_tags s room))
-      by Accepted = tags_fit
-      by (RefusedText w) = tt
+      by : (v : Result ⊤ Refusal) → FitRead (accepted v (read_tags s room))
+      by (Ok tt) = tags_fit
+      by (Err w) = tt

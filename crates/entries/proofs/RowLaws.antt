@@ -1,16 +1,17 @@
 -- The row of a record, and what it says of the record as the plan's definition sees it. Assumes nothing.
-use mathlib.Core.Path.{◌≡◌, refl, ◌∙◌}
-use mathlib.Core.Bool.{Bool}
+use Rattle.std.specs.Prelude.{Option, Result, Ok, Err, ⊤}
+use Rattle.std.specs.Result.{is_err}
+use Rattle.refusals.specs.declared.Refusal.{Refusal}
+use mathlib.Core.Path.{◌≡◌, refl}
+use mathlib.Core.Bool.{Bool, true, false, ◌||◌}
+use Rattle.std.specs.List.{list_any}
 use mathlib.Core.List.{List, [], ◌∷◌}
 use Prim.Native.Nat.{ℕ, ◌+◌, ◌*◌, ◌≤◌}
-use native.Mathlib.Omega.{arith}
 use lib.ListN.{length, get_or}
 use Rattle.text.specs.Pick.{either}
-use Rattle.text.proofs.BoolLaws.{either_none, either_either}
 use Rattle.rowcheck.specs.Check
 use Rattle.tables.specs.Place.{bytes}
 use Rattle.times.specs.Moments.{moment_of}
-use Rattle.times.specs.declared.Moment.{Moment}
 use Rattle.columns.specs.Columns
 use Rattle.model.specs.Flags.{one_if}
 use Rattle.model.specs.Contact.{place_of, column_text}
@@ -21,7 +22,7 @@ use Rattle.mapping.specs.Mapping.{mapped}
 use Rattle.index.specs.Rows.{low, high, has_moment, seconds_in}
 use Rattle.writer.specs.Rows.{rows_from}
 use Rattle.search.proofs.FindLaws.{moment_back}
-use Rattle.confirmations.specs.Confirmations.{answers_of, unanswered}
+use Rattle.confirmations.specs.Confirmations.{answers_of}
 use Rattle.confirmations.specs.declared.Answer.{Answer}
 use Rattle.usable.specs.Reasons.{reason_in}
 use Rattle.plan.specs.Entry.{is_refused, entry_with, entry_of}
@@ -31,22 +32,18 @@ use Rattle.entries.specs.Filled.{Says, Answers}
 use Rattle.entries.specs.Walked.{judged_as, judged_of}
 use Rattle.entries.specs.declared.Judged.{Judged}
 
--- ---- four answers
-pub bears_four : (given : List Answer) (p q r s x y z : Bool) → length given ≡ 4
-    → p ≡ (get_or given 0 unanswered).present → q ≡ (get_or given 1 unanswered).present → x ≡ either p q
-    → r ≡ (get_or given 2 unanswered).present → s ≡ (get_or given 3 unanswered).present → y ≡ either r s
-    → z ≡ either x y → z ≡ bears_any given
-bears_four (a ∷ b ∷ c ∷ d ∷ []) p q r s x y z l ep eq ex er es ey ez =
-    rw (ez, ex, ey, ep, eq, er, es) (either_either a.present b.present (either c.present d.present) ∙ rw (either_none d.present) refl)
-bears_four [] p q r s x y z l ep eq ex er es ey ez = absurd (omega arith)
-bears_four (a ∷ []) p q r s x y z l ep eq ex er es ey ez = absurd (omega arith)
-bears_four (a ∷ b ∷ []) p q r s x y z l ep eq ex er es ey ez = absurd (omega arith)
-bears_four (a ∷ b ∷ c ∷ []) p q r s x y z l ep eq ex er es ey ez = absurd (omega arith)
-bears_four (a ∷ b ∷ c ∷ d ∷ e ∷ given) p q r s x y z l ep eq ex er es ey ez = absurd (omega arith)
+-- ---- the answers
+pub bears_is : (given : List Answer) → list_any (λ a. a.present) given ≡ bears_any given
+bears_is [] = refl
+bears_is (a ∷ rest) = rw (bears_is rest) (by a.present)
+  where
+    by : (b : Bool) → b || bears_any rest ≡ either b (bears_any rest)
+    by true = refl
+    by false = refl
 
 -- ---- the row
 module _ (text : List ℕ) (rows : List Check.Row) (q : Qso) (inexact : Bool) (first count : ℕ) where
-  pub row_is : (j : Judged) (m : Moment) (s h l u b : ℕ) (given : List Answer) (t : Bool)
+  pub row_is : (j : Judged) (m : Option ℕ) (s h l u b : ℕ) (given : List Answer) (t : Bool)
       → j ≡ judged_of text (place_of q Columns.call) (place_of q Columns.mode) (place_of q Columns.band) (place_of q Columns.qso_date) (place_of q Columns.time_on) inexact
       → m ≡ moment_of (bytes text (place_of q Columns.qso_date)) (bytes text (place_of q Columns.time_on))
       → s ≡ seconds_in m → given ≡ answers_of text rows (place_of q Columns.qso_date) → h ≡ has_moment m → l ≡ low s → u ≡ high s → t ≡ bears_any given → b ≡ one_if t
@@ -60,10 +57,14 @@ module _ (text : List ℕ) (rows : List Check.Row) (q : Qso) (inexact : Bool) (f
   unfolding row_with row_of judged_of judged_as reason_in
   row_is j m s h l u b given t ej em es ea eh el eu et eb = rw (ej, eb, et, ea, eh, el, eu, es, em) refl
 
+refused_is : (v : Result ⊤ Refusal) → is_err v ≡ is_refused v
+refused_is (Ok x) = refl
+refused_is (Err w) = refl
+
 pub record_row : (text : List ℕ) (rows : List Check.Row) (a : model-answer.Answer) (q : Qso) (t : Bool) (first count : ℕ) (r : Row)
-    → a ≡ mapped text rows → q ≡ normal_qso text a.qso → t ≡ is_refused a.verdict → r ≡ row_with text rows q t first count → r ≡ entry_row text rows first count
+    → a ≡ mapped text rows → q ≡ normal_qso text a.qso → t ≡ is_err a.verdict → r ≡ row_with text rows q t first count → r ≡ entry_row text rows first count
 unfolding entry_row
-record_row text rows a q t first count r ea eq et er = rw (← ea, ← eq, ← et) er
+record_row text rows a q t first count r ea eq et er = rw (← ea, ← eq, ← refused_is a.verdict, ← et) er
 
 -- ---- what it says
 module _ (text : List ℕ) (rows : List Check.Row) (first count : ℕ) where

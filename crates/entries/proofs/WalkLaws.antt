@@ -1,4 +1,7 @@
 -- The walk over a table that a reading left: the rows of one record after the other. Assumes nothing.
+use Rattle.std.specs.Prelude.{Result, Ok}
+use Rattle.refusals.specs.declared.Refusal.{Refusal}
+use Rattle.reader.specs.declared.Reading.{Reading}
 use mathlib.Core.Path.{◌≡◌, refl, sym, ap, ◌∙◌}
 use mathlib.Core.List.{List, [], ◌∷◌, ◌++◌, append_assoc, append-nil, map}
 use Prim.Native.Nat.{ℕ, zero, suc, ◌+◌, ◌*◌, ◌-◌, ◌/◌, ◌≤◌, ◌<◌}
@@ -15,7 +18,6 @@ use Rattle.adif.specs.Reading.{Row as Field, RowsRead, read_text}
 use Rattle.hand.specs.Rows.{numbered, laid}
 use Rattle.hand.proofs.TableLaws.{laid_length}
 use Rattle.reader.specs.Table.{laid_from, zeros, answer_of, table_of}
-use Rattle.reader.specs.declared.Reading.TheVariants.{Read}
 use Rattle.rowcheck.specs.Check.{record_in}
 use Rattle.rowcheck.specs.Check
 use Rattle.writer.specs.Rows.{row_at, rows_from}
@@ -122,6 +124,11 @@ unfoldable pub Filling : List ℕ → List ℕ → ℕ → List Row → List Row
 Filling text table n was rows first k = Part text table n was rows first k
 
 -- ---- the records that were read
+pub reading_is : (n used m more : ℕ) → ◌≡◌ {A = Result Reading Refusal} (Ok (record { records = n; rows = used })) (Ok (record { records = m; rows = more })) → (n ≡ m) × (used ≡ more)
+reading_is n used m more e =
+    let y : ◌≡◌ {A = Reading} (record { records = n; rows = used }) (record { records = m; rows = more }) = cc in
+    (ap (λ (z : Reading). z.records) y, ap (λ (z : Reading). z.rows) y)
+
 module _ (text table : List ℕ) (n : ℕ) (R : ReadInto text table n) where
   pub record Found : Type 0 where
     pub found : List (List Field)
@@ -133,8 +140,8 @@ module _ (text table : List ℕ) (n : ℕ) (R : ReadInto text table n) where
   pub found_in : Found
   found_in = by (read_text text (length table / 5)) refl (text_fit text (length table / 5)) R.answer R.shown
     where
-      by : (o : RowsRead) → read_text text (length table / 5) ≡ o → FitRead o → answer_of o ≡ Read n R.used → table ≡ table_of o (length table) → Found
-      by (records rs) e f a t = record { found = rs; is = e; counted = cc; fits = f; laid_so = t }
+      by : (o : RowsRead) → read_text text (length table / 5) ≡ o → FitRead o → answer_of o ≡ Ok (record { records = n; rows = R.used }) → table ≡ table_of o (length table) → Found
+      by (records rs) e f a t = record { found = rs; is = e; counted = (reading_is _ _ _ _ a).0; fits = f; laid_so = t }
       by (refused w) e f a t = absurd (let z : ◌≡◌ {A = ℕ} 0 1 = cc in omega arith)
 
   pub fill_start : (was : List Row) → Filling text table n was was 0 0
@@ -239,8 +246,8 @@ module _ (t : List ℕ) (first number i size : ℕ) (f : first ≤ i) (e : i - f
         let o : i - first + 0 ≡ size = rw (ne_eqb (get_or t (i * 5) 0) number n) at opened in
         omega arith
 
-  pub size_last : length t / 5 ≤ i → i - first ≡ size
-  size_last h =
+  pub size_last : i ≤ length t / 5 → length t / 5 ≤ i → length t / 5 - first ≡ size
+  size_last g h =
       let z : length t / 5 - i ≡ 0 = omega arith in
       let o : i - first + 0 ≡ size = rw z at e in
       omega arith

@@ -1,10 +1,9 @@
 -- The rows of a plan, one for each record that was read, and what they say of the records as the plan's definition sees them.
-use Rattle.std.specs.Prelude.{ℕ, ◌+◌, ◌*◌, ◌/◌, ◌≤◌, ◌<◌, ◌≡◌, List, [], length, get_or}
+use Rattle.std.specs.Prelude.{ℕ, ◌+◌, ◌*◌, ◌/◌, ◌≤◌, ◌<◌, ◌≡◌, List, [], length, get_or, Ok}
 use Rattle.tables.specs.Place.{bytes}
 use Rattle.chain.specs.Chain.{col}
 use Rattle.adif.specs.Reading.{read_text}
 use Rattle.reader.specs.Table.{answer_of, table_of}
-use Rattle.reader.specs.declared.Reading.TheVariants.{Read}
 use Rattle.writer.specs.Rows.{rows_from}
 use Rattle.confirmations.specs.Confirmations.{answers_of}
 use Rattle.plan.specs.Entry.{Entry, no_entry, entries_of}
@@ -16,7 +15,7 @@ use Rattle.entries.specs.Row.{Row, call_in, mode_in, band_in, date_in, moment_in
 pub record ReadInto (text table : List ℕ) (n : ℕ) : Type 0 where
   pub used : ℕ
   pub small : length text ≤ 16777216
-  pub answer : answer_of (read_text text (length table / 5)) ≡ Read n used
+  pub answer : answer_of (read_text text (length table / 5)) ≡ Ok (record { records = n; rows = used })
   pub shown : table ≡ table_of (read_text text (length table / 5)) (length table)
 
 -- the records as the plan's definition sees them

@@ -5,12 +5,11 @@
 -- first row in the table of rows, 21 how many it has there, 22 the contact that it found, by number and one, 23 whether it bears a
 -- confirmation, 24 the services that count at it, as bits, 25 and 26 the chains of records at which a service counts, 27 the place of the
 -- found contact's entry in the list. A number of 64 bits has its low half first.
-use Rattle.std.specs.Prelude.{ℕ, zero, suc, Bool, List, [], ◌∷◌, get_or, replicate, set}
+use Rattle.std.specs.Prelude.{ℕ, zero, suc, Bool, List, [], ◌∷◌, get_or, replicate, set, Option}
 use Rattle.text.specs.Space.{trimmed}
 use Rattle.tables.specs.Place.{place}
 use Rattle.tables.specs.declared.Place.{Place}
 use Rattle.times.specs.Moments.{moment_of}
-use Rattle.times.specs.declared.Moment.{Moment}
 use Rattle.columns.specs.Columns
 use Rattle.model.specs.Flags.{one_if}
 use Rattle.model.specs.Contact.{place_of, column_text}
@@ -55,7 +54,7 @@ date_in r = place (get_or r 14 0) (get_or r 15 0) (get_or r 16 0)
 abbrev pub key_in : Row → Key
 key_in r = record { call = call_in r; mode = mode_in r; band = band_in r }
 
-abbrev pub moment_in : Row → Moment
+abbrev pub moment_in : Row → Option ℕ
 moment_in r = moment_from (get_or r 17 0) (joined (get_or r 18 0) (get_or r 19 0))
 
 -- ---- the row of a record that nothing is settled of
@@ -63,7 +62,7 @@ moment_in r = moment_from (get_or r 17 0) (joined (get_or r 18 0) (get_or r 19 0
 unfoldable pub file_code : List ℕ → List ℕ → List ℕ → ℕ
 file_code call mode band = code_of (trimmed call) (trimmed mode) (trimmed band)
 
-unfoldable pub row_of : ℕ → ℕ → Place → Place → Place → Place → Moment → ℕ → ℕ → Bool → Row
+unfoldable pub row_of : ℕ → ℕ → Place → Place → Place → Place → Option ℕ → ℕ → ℕ → Bool → Row
 row_of reason code call mode band date moment first count bears =
     0 ∷ reason ∷ 0 ∷ 0 ∷ code
     ∷ call.kind ∷ call.start ∷ call.len

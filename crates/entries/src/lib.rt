@@ -18,7 +18,6 @@ use columns::{BAND, CALL, MODE, QSO_DATE, TIME_ON};
 use confirmations::Answer;
 use dedupe::Key;
 use model::Qso;
-use refusals::Verdict;
 use tables::{Place, places};
 
 // The number in a column of a row.
@@ -69,39 +68,6 @@ struct Judged {
     reason: u32,
 }
 
-// As `judge`, with the names of the places that are entries.
-fn judge_named(
-    text: &[u8],
-    call: Place,
-    called: [u8; 12],
-    call_len: usize,
-    mode: Place,
-    name: [u8; 12],
-    mode_len: usize,
-    band: Place,
-    other: [u8; 12],
-    band_len: usize,
-    date: Place,
-    time: Place,
-    inexact: bool,
-) -> Judged
-    requires { (call_len ≤ 12) × (mode_len ≤ 12) × (band_len ≤ 12) }
-    ensures { result ≡ judged_as (shown_as text.now call (take call_len called)) (shown_as text.now mode (take mode_len name)) (shown_as text.now band (take band_len other)) (part text.now date) (part text.now time) inexact }
-{
-    let c = dedupe::shown(text, &called[..call_len], call);
-    let m = dedupe::shown(text, &name[..mode_len], mode);
-    let b = dedupe::shown(text, &other[..band_len], band);
-    let code = index::code_of(
-        text::space::trim(c),
-        text::space::trim(m),
-        text::space::trim(b),
-    );
-    let d = places::part(text, date);
-    let t = places::part(text, time);
-    let reason = usable::check(c, d, t, text::space::is_blank(m), inexact);
-    Judged { code, reason }
-}
-
 fn judge(
     text: &[u8],
     call: Place,
@@ -113,44 +79,27 @@ fn judge(
 ) -> Judged
     ensures { result ≡ judged_of text.now call mode band date time inexact }
 {
-    let c = places::name_of(call);
-    let m = places::name_of(mode);
-    let b = places::name_of(band);
-    let called = c.bytes;
-    let name = m.bytes;
-    let other = b.bytes;
-    judge_named(
-        text, call, called, c.len, mode, name, m.len, band, other, b.len, date, time, inexact,
-    )
-}
-
-fn is_present(answer: Answer) -> bool
-    ensures { result ≡ answer.present }
-{
-    answer.present
+    let called = places::name_of(call);
+    let name = places::name_of(mode);
+    let other = places::name_of(band);
+    let c = dedupe::shown(text, &called.bytes[..called.len], call);
+    let m = dedupe::shown(text, &name.bytes[..name.len], mode);
+    let b = dedupe::shown(text, &other.bytes[..other.len], band);
+    let code = index::code_of(
+        text::space::trim(c),
+        text::space::trim(m),
+        text::space::trim(b),
+    );
+    let d = places::part(text, date);
+    let t = places::part(text, time);
+    let reason = usable::check(c, d, t, text::space::is_blank(m), inexact);
+    Judged { code, reason }
 }
 
 fn bears_any(answers: [Answer; 4]) -> bool
     ensures { result ≡ bears_any answers }
 {
-    let first = text::any(is_present(answers[0]), is_present(answers[1]));
-    let second = text::any(is_present(answers[2]), is_present(answers[3]));
-    text::any(first, second)
-}
-
-fn one_if(bears: bool) -> u32
-    ensures { result ≡ one_if bears }
-{
-    if bears { 1 } else { 0 }
-}
-
-fn is_refused(verdict: Verdict) -> bool
-    ensures { result ≡ is_refused verdict }
-{
-    match verdict {
-        Verdict::Accepted => false,
-        Verdict::Refused(_) => true,
-    }
+    answers.iter().any(|a| a.present)
 }
 
 // The row of a normal QSO, whose record has `count` rows from row `first` on.
@@ -199,7 +148,7 @@ fn row_with(
         first as u32,
         count as u32,
         0,
-        one_if(bears_any(answers)),
+        u32::from(bears_any(answers)),
         0,
         0,
         0,
@@ -212,16 +161,8 @@ fn row_of_record(text: &[u8], table: &[u32], first: usize, count: usize) -> [u32
     ensures { result ≡ entry_row text.now (rows_from table.now first count) first count }
 {
     let answer = mapping::map_rows(text, table, first, count);
-    let qso = answer.qso;
-    let verdict = answer.verdict;
-    row_with(
-        text,
-        table,
-        first,
-        count,
-        qso.normalize(text),
-        is_refused(verdict),
-    )
+    let qso = answer.qso.normalize(text);
+    row_with(text, table, first, count, qso, answer.verdict.is_err())
 }
 
 // How many rows from row `first` on have that number.
@@ -231,14 +172,12 @@ fn size_at(table: &[u32], first: usize, number: u32) -> usize
     ensures result_in_bounds { (first + result) * 5 ≤ length table.now }
 {
     let rows = table.len() / 5;
-    let mut i = first;
-    while i < rows {
+    for i in first..rows {
         if table[i * 5] != number {
             return i - first;
         }
-        i += 1;
     }
-    i - first
+    rows - first
 }
 
 // A row for each of the n records that were read.
@@ -252,11 +191,9 @@ pub fn fill(text: &[u8], table: &[u32], n: usize, rows: &mut [[u32; 28]])
     ensures rows_unchanged { drop n rows.new ≡ drop n rows.old }
 {
     let mut first = 0;
-    let mut k = 0;
-    while k < n {
+    for k in 0..n {
         let count = size_at(table, first, (k + 1) as u32);
         rows[k] = row_of_record(text, table, first, count);
         first += count;
-        k += 1;
     }
 }

@@ -1,4 +1,5 @@
 -- The examples hold: each is computed. That a day which is none has no moment goes by what its time of day is. Assumes nothing.
+use Rattle.std.specs.Prelude.{Option, Some, None}
 use mathlib.Core.Path.{◌≡◌, refl}
 use mathlib.Core.List.{List}
 use Prim.Native.Nat.{ℕ}
@@ -12,8 +13,6 @@ use Rattle.text.proofs.BoolLaws.{both_no}
 use Rattle.letters.specs.Capitals.{raised}
 use Rattle.letters.specs.Same.{same_raised}
 use Rattle.decimal.specs.Decimal.{digits_after, digits_of, leads, unsigned_of}
-use Rattle.decimal.specs.declared.Unsigned.{Unsigned}
-use Rattle.decimal.specs.declared.Unsigned.TheVariants.{Is, Not}
 use Rattle.refusals.specs.Refusals.{of_text}
 use Rattle.tags.specs.Tags.{kind_of, colon_at, name_at, name_length, name_place, name_of, length_after, value_of, by_kind, tag_of, closed_at, open_at, tag_at}
 use Rattle.adif.specs.Reading.{row_name, row_value, read_tags, read_text}
@@ -22,16 +21,15 @@ use Rattle.tables.specs.Place.{value}
 use Rattle.times.specs.Calendar.{leap, year_days, month_days, days_before_year, days_before_month, is_day, day_number}
 use Rattle.times.specs.Moments.{date_of, clock_of, is_clock, seconds_of, moment_at, moment_by, moment_of}
 use Rattle.times.specs.Window.{is_within}
-use Rattle.times.specs.declared.Moment.TheVariants.{Never}
 use Rattle.dedupe.specs.Keys.{natural_key, duplicate}
 use Rattle.examples.specs.Table.{Examples}
 
-no_moment_by : (c : Unsigned) → moment_by (Is 20260231) c ≡ Never
+no_moment_by : (c : Option ℕ) → moment_by (Some 20260231) c ≡ None
 unfolding moment_at is_day month_days leap
-no_moment_by Not = refl
-no_moment_by (Is c) = refl
+no_moment_by None = refl
+no_moment_by (Some c) = refl
 
-no_moment_at : (time : List ℕ) → moment_of (ascii "20260231") time ≡ Never
+no_moment_at : (time : List ℕ) → moment_of (ascii "20260231") time ≡ None
 unfolding moment_of date_of digits_of digits_after trimmed trim_start trim_end lead space_len space_back width space1 space2 space3 space80
 no_moment_at time = no_moment_by (clock_of (trimmed time))
 

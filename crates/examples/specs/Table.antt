@@ -1,7 +1,6 @@
--- The checked examples of docs/SCOPE.md, those that are to be proved, line by line. `readText` is what `ox_read` is proved to read, `bandFor` the
--- band of `ox_band_for_freq_hz`, `momentOf` the moment of `ox_parse_dt` and `duplicate` the test of `ox_is_duplicate`.
-use Rattle.std.specs.Prelude.{◌≡◌, true, false, List, [], ◌∷◌, ◌++◌, map, ℕ, ℤ}
-use Rattle.std.proofs.Math.Option.{Option, none, some}
+-- The checked examples of docs/SCOPE.md, those that are to be proved, line by line. `read_text` is what `ox_read` is proved to read, `band_for` the
+-- band of `ox_band_for_freq_hz`, `moment_of` the moment of `ox_parse_dt` and `duplicate` the test of `ox_is_duplicate`.
+use Rattle.std.specs.Prelude.{◌≡◌, true, false, List, [], ◌∷◌, ◌++◌, map, ℕ, ℤ, Some, None, Option}
 use Prim.Native.String.{String}
 use Rattle.text.specs.Ascii.{ascii}
 use Rattle.adif.specs.Records.{Outcome, records, refused}
@@ -12,8 +11,6 @@ use Rattle.tables.specs.Bands.{band_for}
 use Rattle.tables.specs.Place.{value, band_place}
 use Rattle.times.specs.Calendar.{is_day}
 use Rattle.times.specs.Moments.{moment_of}
-use Rattle.times.specs.declared.Moment.{Moment}
-use Rattle.times.specs.declared.Moment.TheVariants.{At, Never}
 use Rattle.dedupe.specs.Keys.{duplicate}
 
 -- a field with this name and this value
@@ -51,13 +48,13 @@ pub record Examples : Type 0 where
   pub largest_length : reads (ascii "<A:18446744073709551615>x") ≡ refused (record { number = 6; name = ascii "A"; wanted = 18446744073709551615; left = 1 })
   pub length_too_large : reads (ascii "<A:18446744073709551616>x") ≡ refused (why_of 5 (ascii "A"))
   -- 7300000 Hz: 40m; 7300001: none
-  pub band_edge : band_name 7300000 ≡ some (ascii "40m")
-  pub past_the_edge : band_name 7300001 ≡ none
+  pub band_edge : band_name 7300000 ≡ Some (ascii "40m")
+  pub past_the_edge : band_name 7300001 ≡ None
   -- 20240229 is a day; noon on it is so many seconds after year 0 began
   pub leap_day : is_day 2024 2 29 ≡ true
-  pub leap_noon : moment_of (ascii "20240229") (ascii "1200") ≡ At 63876427200
+  pub leap_noon : moment_of (ascii "20240229") (ascii "1200") ≡ Some 63876427200
   -- 20260231 isn't, so it is never a duplicate
   pub no_day : is_day 2026 2 31 ≡ false
-  pub no_moment : (time : List ℕ) → moment_of (ascii "20260231") time ≡ Never
-  pub never_a_duplicate : (call mode band call' mode' band' time : List ℕ) (other : Moment) (window : ℤ)
+  pub no_moment : (time : List ℕ) → moment_of (ascii "20260231") time ≡ None
+  pub never_a_duplicate : (call mode band call' mode' band' time : List ℕ) (other : Option ℕ) (window : ℤ)
       → duplicate call mode band call' mode' band' (moment_of (ascii "20260231") time) other window ≡ false

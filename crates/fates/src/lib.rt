@@ -10,32 +10,34 @@ ghost use Rattle.infile.specs.Infile.{Chained};
 ghost use Rattle.fates.specs.Fated.{Found, Fated, Kept};
 ghost use Rattle.fates.specs.Steps.{fate_in, with_fate, fated, Step};
 
+use plan::{CONFIRMED, IGNORED, IMPORTABLE, IN_FILE, IN_LOG, UNMATCHED, UNUSABLE};
+
 // The first fate that applies.
 fn fate_of(reason: usize, bears: bool, matched: bool, download: bool, repeated: bool) -> u32
     ensures { result ≡ fate_of reason bears matched download repeated }
 {
     if reason > 0 {
-        return 4;
+        return UNUSABLE;
     }
     if bears {
         if matched {
-            return 5;
+            return CONFIRMED;
         }
-        return 6;
+        return UNMATCHED;
     }
     if download {
-        return 7;
+        return IGNORED;
     }
     if matched {
-        return 2;
+        return IN_LOG;
     }
     if repeated {
-        return 3;
+        return IN_FILE;
     }
-    1
+    IMPORTABLE
 }
 
-// The fate of a record that repeats none: 1 exactly where it counts whether it does.
+// The fate of a record that repeats none: importable exactly where it counts whether it does.
 fn first_fate(row: [u32; 28], download: bool) -> u32
     ensures { result ≡ fate_of (get_or row 1 0) (ltb 0 (get_or row 23 0)) (ltb 0 (get_or row 22 0)) download false }
 {
@@ -53,13 +55,13 @@ fn fate_in(text: &[u8], rows: &[[u32; 28]], n: usize, k: usize, limit: u64, down
     ensures { result ≡ fate_in text.now limit download rows.now k }
 {
     let fate = first_fate(rows[k], download);
-    if fate != 1 {
+    if fate != IMPORTABLE {
         return fate;
     }
     if infile::is_repeated(text, rows, n, k, limit) {
-        return 3;
+        return IN_FILE;
     }
-    1
+    IMPORTABLE
 }
 
 fn with_fate(r: [u32; 28], fate: u32) -> [u32; 28]
@@ -82,7 +84,7 @@ fn settle_one(text: &[u8], limit: u64, download: bool, rows: &mut [[u32; 28]], n
 {
     let fate = fate_in(text, rows, n, k, limit, download);
     put_fate(rows, k, fate);
-    if fate == 1 {
+    if fate == IMPORTABLE {
         let b = entries::number_in(rows[k], 4) % n;
         infile::push(rows, b, k);
     }
@@ -95,9 +97,7 @@ pub fn settle(text: &[u8], window: i64, download: bool, rows: &mut [[u32; 28]], 
     ensures kept { Kept n rows.old rows.new }
 {
     let limit = times::window::limit_of(window);
-    let mut k = 0;
-    while k < n {
+    for k in 0..n {
         settle_one(text, limit, download, rows, n, k);
-        k += 1;
     }
 }

@@ -18,8 +18,8 @@ pub raised_on : (was now : List ℕ) (at i b : ℕ) (s : List ℕ) → i < lengt
 unfolding raised
 raised_on was now at i b s h e p = half_on was now at i b (capitals s) (rw (length-map s raised) h) (e ∙ sym (get_or-map raised s i 0)) p
 
-pub raised_end : (was now : List ℕ) (at i : ℕ) (s : List ℕ) → i ≤ length s → length s ≤ i → Half was now at i (capitals s) → Put (at + i) was now at (capitals s)
-raised_end was now at i s g h p = half_end was now at i (capitals s) (rw (length-map s raised) g) (rw (length-map s raised) h) p
+pub raised_end : (was now : List ℕ) (at : ℕ) (s : List ℕ) → Half was now at (length s) (capitals s) → Put (at + length s) was now at (capitals s)
+raised_end was now at s p = half_end was now at (length s) (capitals s) (rw (length-map s raised) (omega arith)) (rw (length-map s raised) (omega arith)) p
 
 pub room_raised : (l : List ℕ) (at : ℕ) (s : List ℕ) → Room l at (capitals s) → at + length s ≤ length l
 unfolding Room

@@ -11,12 +11,10 @@ pub fn put_raised(out: &mut [u8], at: usize, src: &[u8]) -> usize
     requires { Room out.old at (capitals src.now) }
     ensures { Put result out.old out.new at (capitals src.now) }
 {
-    let mut i = 0;
-    while i < src.len() {
-        out[at + i] = letters::raise(src[i]);
-        i += 1;
+    for (i, &b) in src.iter().enumerate() {
+        out[at + i] = letters::raise(b);
     }
-    at + i
+    at + src.len()
 }
 
 pub fn put_open(out: &mut [u8], at: usize, name: &[u8]) -> usize

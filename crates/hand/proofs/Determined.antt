@@ -1,5 +1,6 @@
 -- Each public call's promise is met by one answer. That of `with_field`, a helper, leaves open the rows behind those in use, and all rows
 -- where there is no room: nobody looks at them. A lent slice keeps its length, which `with_field` does not say again. Assumes nothing.
+use Rattle.std.specs.Prelude.{Option}
 use mathlib.Core.Path.{◌≡◌, ap, sym, ◌∙◌}
 use contract.Lifetimes.{Lfts}
 use denote.Triple.Clauses.{AtExit}
@@ -10,7 +11,6 @@ use lib.ListN.{length, take}
 use Rattle.adif.specs.Records.{put}
 use Rattle.adif.specs.Reading.{Row, row_name}
 use mathlib.Core.List.{List}
-use Rattle.hand.specs.declared.Kept.{Kept}
 use Rattle.hand.specs.Rows.{kept_of, Inserted}
 use Rattle.hand.proofs.part.Reads as part
 use Rattle.hand.proofs.part.Kinds as part-kinds
@@ -24,7 +24,7 @@ part_once : (κs : Lfts 1) (a : Dens κs part-kinds.ps) (x y : (res_t part-kinds
     → part.Post κs a x d → part.Post κs a y e → x.now ≡ y.now
 part_once κs a x y d e p q = p ∙ sym q
 
-module _ {want : List Row} {k m : Kept} {r s : List Row} (same : length r ≡ length s) (p : Inserted k want r) (q : Inserted m want s) where
+module _ {want : List Row} {k m : Option ℕ} {r s : List Row} (same : length r ≡ length s) (p : Inserted k want r) (q : Inserted m want s) where
   inserted_once : k ≡ m
   inserted_once = p.kept ∙ ap (λ (n : ℕ). kept_of n (length want)) same ∙ sym q.kept
 

@@ -1,32 +1,19 @@
 -- A part of a text, by the tests that the code makes. Assumes nothing.
+use Rattle.std.specs.declared.cmp.Ordering.{Ordering}
+use Rattle.std.specs.declared.cmp.Ordering.TheVariants.{Greater}
 use mathlib.Core.Path.{◌≡◌, refl, sym, ◌∙◌, ap}
 use mathlib.Core.List.{List, [], ◌∷◌}
-use Prim.Native.Nat.{ℕ, zero, suc, ◌+◌, ◌-◌, ◌≤◌, ◌<◌}
+use Prim.Native.Nat.{ℕ, zero, suc, ◌<◌}
 use native.Mathlib.Omega.{arith}
 use native.Mathlib.Nat.{add-zero}
-use lib.ListN.{length, get_or, take, drop, length-drop, drop_of_length-le}
-use lib.Seq.{take_all, take-nil, get_or-drop}
-use Rattle.text.proofs.SpaceLaws.{rest}
+use lib.ListN.{get_or, take, drop}
+use lib.Seq.{take-nil, get_or-drop}
 use Rattle.letters.specs.Capitals.{raised, capitals}
 use Rattle.letters.specs.Order.{order, order_raised}
-use Rattle.letters.specs.declared.Order.{Order}
-use Rattle.letters.specs.declared.Order.TheVariants.{Greater}
 use Rattle.letters.proofs.OrderLaws.{first_above}
 use Rattle.adif.specs.Reading.{part}
 
-module _ (s : List ℕ) (at n : ℕ) where
-  pub none_there : length s ≤ at → take 0 s ≡ part s at n
-  none_there h = sym (rw (drop_of_length-le s {i = at} h, take-nil n) refl)
-
-  pub all_there : length s - at ≤ n → take (length s - at) (drop at s) ≡ part s at n
-  all_there h = rest s at ∙ sym (take_all n (drop at s) (rw length-drop h))
-
-  pub some_there : take (at + n - at) (drop at s) ≡ part s at n
-  some_there =
-      let e : at + n - at ≡ n = omega arith in
-      rw e refl
-
-pub order_there : (text name p : List ℕ) (at n : ℕ) (o : Order) → p ≡ part text at n → o ≡ order_raised name p → o ≡ order_raised name (part text at n)
+pub order_there : (text name p : List ℕ) (at n : ℕ) (o : Ordering) → p ≡ part text at n → o ≡ order_raised name p → o ≡ order_raised name (part text at n)
 order_there text name p at n o e q = q ∙ ap (order_raised name) e
 
 -- a first byte above that of the part decides: an empty name has none above any

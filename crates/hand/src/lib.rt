@@ -2,33 +2,26 @@
 // in the text, and the value's. When the record is closed its rows move to the lent table, of five numbers a row.
 #![tactic(auto)]
 
-ghost use Rattle.std.specs.Prelude.{◌≡◌, ◌+◌, ◌*◌, ◌<◌, ◌≤◌, length, get_or, take};
+ghost use Rattle.std.specs.Prelude.{◌≡◌, ◌+◌, ◌*◌, ◌≤◌, length, get_or, take};
 ghost use Rattle.std.proofs.lemmas.List.Edits.{sets};
 ghost use Rattle.letters.specs.Capitals.{raised, capitals};
 ghost use Rattle.letters.specs.Order.{order_raised};
 ghost use Rattle.adif.specs.Records.{put};
 ghost use Rattle.adif.specs.Reading.{part, row_name};
-ghost use Rattle.hand.specs.Rows.{Placed, Inserted, put_in, numbered, laid};
+ghost use Rattle.hand.specs.Rows.{Placed, Inserted, laid};
 
-use letters::Order;
+use std::cmp::Ordering;
 
 // The n bytes of s from `at` on, or what there is of them.
-#[tactic(auto, using(crate::proofs::PartLaws::none_there, crate::proofs::PartLaws::all_there, crate::proofs::PartLaws::some_there))]
 pub fn part(s: &[u8], at: usize, n: usize) -> &[u8]
     ensures { result.now ≡ part s.now at n }
 {
-    if s.len() <= at {
-        return &s[..0];
-    }
-    if s.len() - at <= n {
-        return &s[at..];
-    }
-    let e = at + n;
-    &s[at..e]
+    let rest = &s[at.min(s.len())..];
+    &rest[..n.min(rest.len())]
 }
 
 // How `name` stands to the `n` bytes at `at`, both in capitals.
-fn order_with(text: &[u8], name: &[u8], at: u32, n: u32) -> Order
+fn order_with(text: &[u8], name: &[u8], at: u32, n: u32) -> Ordering
     ensures { result ≡ order_raised name.now (part text.now at n) }
 {
     letters::order_raised(name, part(text, at as usize, n as usize))
@@ -41,92 +34,45 @@ fn raised_at(s: &[u8], at: u32) -> u8
     letters::raise(text::byte(s, at as usize))
 }
 
-#[derive(Clone, Copy)]
-struct Spot {
-    pub at: usize,
-    pub same: bool,
-}
-
-// Where a row of that name goes: its index, and whether the row there has the same name. Most names differ in their first letter, which
-// tells before any name is cut out of the text.
-fn spot_of(text: &[u8], rows: &[[u32; 4]], used: usize, name: &[u8]) -> Spot
-    requires { used ≤ length rows.now }
-    ensures { Placed text.now (take used rows.now) (capitals name.now) result }
+// The row that has the name, or else where one of that name goes in. Most names differ in their first letter, which tells before any name
+// is cut out of the text.
+fn spot_of(text: &[u8], rows: &[[u32; 4]], name: &[u8]) -> Result<usize, usize>
+    ensures { Placed text.now rows.now (capitals name.now) result }
 {
     let first = raised_at(name, 0);
-    let mut i = 0;
-    while i < used {
-        let x = rows[i];
+    for (i, x) in rows.iter().enumerate() {
         if raised_at(text, x[0]) < first {
-            i += 1;
             continue;
         }
-        let o = order_with(text, name, x[0], x[1]);
-        match o {
-            Order::Less => {
-                return Spot { at: i, same: false };
-            }
-            Order::Equal => {
-                return Spot { at: i, same: true };
-            }
-            Order::Greater => {
-                i += 1;
-            }
+        match order_with(text, name, x[0], x[1]) {
+            Ordering::Less => return Err(i),
+            Ordering::Equal => return Ok(i),
+            Ordering::Greater => {}
         }
     }
-    Spot { at: i, same: false }
-}
-
-// The rows from `at` on move up by one, and the row goes to `at`.
-fn shift_in(rows: &mut [[u32; 4]], used: usize, at: usize, row: [u32; 4])
-    requires { (at ≤ used) × (used < length rows.old) }
-    ensures { take (used + 1) rows.new ≡ put_in at row (take used rows.old) }
-{
-    let mut carry = row;
-    let mut j = at;
-    while j < used {
-        let t = rows[j];
-        rows[j] = carry;
-        carry = t;
-        j += 1;
-    }
-    rows[used] = carry;
-}
-
-#[derive(Clone, Copy)]
-pub enum Kept {
-    Used(usize),
-    Full,
+    Err(rows.len())
 }
 
 // The row goes in by its name: a row of the same name is replaced, and a name too many for the rows is refused.
-pub fn with_field(text: &[u8], rows: &mut [[u32; 4]], used: usize, row: [u32; 4]) -> Kept
+pub fn with_field(text: &[u8], rows: &mut [[u32; 4]], used: usize, row: [u32; 4]) -> Option<usize>
     requires { used ≤ length rows.old }
     ensures { Inserted result (put (row_name text.now) row (take used rows.old)) rows.new }
 {
     let name = part(text, row[0] as usize, row[1] as usize);
-    let p = spot_of(text, rows, used, name);
-    let at = p.at;
-    if p.same {
-        rows[at] = row;
-        return Kept::Used(used);
+    match spot_of(text, &rows[..used], name) {
+        Ok(at) => {
+            rows[at] = row;
+            Some(used)
+        }
+        Err(at) => {
+            if used == rows.len() {
+                return None;
+            }
+            rows.copy_within(at..used, at + 1);
+            rows[at] = row;
+            Some(used + 1)
+        }
     }
-    if used == rows.len() {
-        return Kept::Full;
-    }
-    shift_in(rows, used, at, row);
-    Kept::Used(used + 1)
-}
-
-fn put_row(table: &mut [u32], at: usize, record: u32, row: [u32; 4])
-    requires { at + 5 ≤ length table.old }
-    ensures { table.new ≡ sets table.old at (numbered «record» row) }
-{
-    table[at] = record;
-    table[at + 1] = row[0];
-    table[at + 2] = row[1];
-    table[at + 3] = row[2];
-    table[at + 4] = row[3];
 }
 
 // The rows go to the table from `at` on, each behind the record's number.
@@ -134,11 +80,8 @@ pub fn move_rows(table: &mut [u32], at: usize, record: u32, rows: &[[u32; 4]], u
     requires { (used ≤ length rows.now) × (at + 5 * used ≤ length table.old) }
     ensures { table.new ≡ sets table.old at (laid «record» (take used rows.now)) }
 {
-    let mut i = 0;
-    let mut to = at;
-    while i < used {
-        put_row(table, to, record, rows[i]);
-        to += 5;
-        i += 1;
+    for (i, row) in rows[..used].iter().enumerate() {
+        let to = at + 5 * i;
+        table[to..to + 5].copy_from_slice(&[record, row[0], row[1], row[2], row[3]]);
     }
 }

@@ -1,11 +1,11 @@
 -- A source text above the limit makes an export's header too long. Assumes nothing.
+use Rattle.std.specs.Prelude.{Ok}
 use mathlib.Core.Path.{◌≡◌, refl, sym}
 use mathlib.Core.Logic.{inl, inr}
 use mathlib.Core.List.{List, [], ◌∷◌}
 use Prim.Native.Nat.{ℕ, ◌+◌, ◌<◌}
 use native.Mathlib.Omega.{arith}
 use lib.ListN.{length, length-append}
-use Rattle.refusals.specs.declared.Written.TheVariants.{Bytes}
 use Rattle.refusals.proofs.WrittenLaws.{fit_long}
 use Rattle.fields.specs.Written.{field_text, end_of_header}
 use Rattle.fields.specs.Parts.{field_as}
@@ -29,4 +29,4 @@ module _ (version program created : List ℕ) where
 long_refused : LongRefused
 unfolding LongRefused answer_of
 long_refused version program created room good long =
-    rw good (sym (fit_long (Bytes (length (export_header version program created))) room (length (export_header version program created)) refl (header_long version program created long)))
+    rw good (sym (fit_long (Ok (length (export_header version program created))) room (length (export_header version program created)) refl (header_long version program created long)))

@@ -1,16 +1,15 @@
 -- The answers: 11 for a text that is not UTF-8, 1 for an output that is too long, 13 for one that does not fit.
-use Rattle.std.specs.Prelude.{◌≡◌, refl, Bool, true, false, ◌⊎◌, List, [], ◌∷◌, ℕ, ◌+◌, ◌<◌, length, leb}
+use Rattle.refusals.specs.declared.Refusal.{Refusal}
+use Rattle.std.specs.Prelude.{◌≡◌, refl, Bool, true, false, ◌⊎◌, List, [], ◌∷◌, ℕ, ◌+◌, ◌<◌, length, leb, Result, Ok, Err}
 use Rattle.text.specs.Pick.{pick, both}
 use Rattle.text.specs.Utf8.{utf8}
 use Rattle.refusals.specs.Written.{fitted}
 use Rattle.refusals.specs.declared.Refusal.TheVariants.{TooLong, BadRow, ShortOutput}
-use Rattle.refusals.specs.declared.Written.{Written}
-use Rattle.refusals.specs.declared.Written.TheVariants.{Bytes, Unwritten}
 use Rattle.headers.specs.Headers.{export_header}
 
 -- the text w, made of texts that are UTF-8 or not, for an output of `room` bytes
-unfoldable pub answer_of : Bool → List ℕ → ℕ → Written
-answer_of good w room = pick good (fitted (Bytes (length w)) room) (Unwritten BadRow)
+unfoldable pub answer_of : Bool → List ℕ → ℕ → Result ℕ Refusal
+answer_of good w room = pick good (fitted (Ok (length w)) room) (Err BadRow)
 
 -- all are UTF-8
 unfoldable pub all_utf8 : List ℕ → List ℕ → List ℕ → Bool
@@ -32,13 +31,13 @@ Long (s ∷ more) = (16777216 < length s) ⊎ Long more
 unfoldable pub LongRefused : Type 0
 LongRefused =
     (version program created : List ℕ) (room : ℕ) → all_utf8 version program created ≡ true → Long (version ∷ program ∷ created ∷ [])
-    → answer_of (all_utf8 version program created) (export_header version program created) room ≡ Unwritten TooLong
+    → answer_of (all_utf8 version program created) (export_header version program created) room ≡ Err TooLong
 
 -- one byte for no room, and a bad text before that
-no_room : answer_of true (65 ∷ []) 0 ≡ Unwritten ShortOutput
+no_room : answer_of true (65 ∷ []) 0 ≡ Err ShortOutput
 unfolding answer_of fitted
 no_room = refl
 
-bad_text : answer_of false (65 ∷ []) 0 ≡ Unwritten BadRow
+bad_text : answer_of false (65 ∷ []) 0 ≡ Err BadRow
 unfolding answer_of
 bad_text = refl

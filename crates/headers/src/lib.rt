@@ -2,30 +2,23 @@
 // refused.
 #![tactic(auto)]
 
-ghost use Rattle.std.specs.Prelude.{◌≡◌, ◌++◌, ◌+◌, ◌≤◌, length};
+ghost use Rattle.std.specs.Prelude.{◌≡◌, ◌++◌, ◌+◌, ◌≤◌, length, Ok};
 ghost use Rattle.fields.specs.Written.{field_text, end_of_header};
 ghost use Rattle.fields.specs.Parts.{field_as};
 ghost use Rattle.output.specs.Put.{Put, Room};
 ghost use Rattle.headers.specs.Headers.{journal_header, adif_version, program_id, program_version, created_timestamp, rigflow, export_header};
 ghost use Rattle.headers.specs.Answer.{capped, capped_after, all_utf8, answer_of};
 ghost use Rattle.refusals.specs.Written.{fitted, output_by};
-ghost use Rattle.refusals.specs.declared.Written.TheVariants.{Bytes};
 
-use refusals::{Refusal, Written};
+use refusals::Refusal;
 
-pub fn write_journal_header(out: &mut [u8]) -> Written
-    ensures value { result ≡ fitted (Bytes (length journal_header)) (length out.old) }
+pub fn write_journal_header(out: &mut [u8]) -> Result<usize, Refusal>
+    ensures value { result ≡ fitted (Ok (length journal_header)) (length out.old) }
     ensures out_after { out.new ≡ output_by result out.old journal_header }
 {
-    let fits = refusals::fit(Written::Bytes(45), out.len());
-    match fits {
-        Written::Unwritten(why) => Written::Unwritten(why),
-        Written::Bytes(_) => Written::Bytes(output::put_bytes(
-            out,
-            0,
-            b"<ADIF_VER:5>3.1.6 <PROGRAMID:7>rigflow <EOH>\n",
-        )),
-    }
+    let header = b"<ADIF_VER:5>3.1.6 <PROGRAMID:7>rigflow <EOH>\n";
+    refusals::fit(Ok(header.len()), out.len())?;
+    Ok(output::put_bytes(out, 0, header))
 }
 
 // A size of at most 16,777,216, or one more.
@@ -53,13 +46,11 @@ pub fn with_field(size: usize, name: &[u8], value: &[u8]) -> usize
     cap(size + fields::field_size(name, value))
 }
 
+#[tactic(auto, unfolding(crate::specs::Answer::all_utf8))]
 pub fn are_utf8(a: &[u8], b: &[u8], c: &[u8]) -> bool
     ensures { result ≡ all_utf8 a.now b.now c.now }
 {
-    text::all(
-        text::utf8::is_utf8(a),
-        text::all(text::utf8::is_utf8(b), text::utf8::is_utf8(c)),
-    )
+    text::utf8::is_utf8(a) && text::utf8::is_utf8(b) && text::utf8::is_utf8(c)
 }
 
 // The size of an export's header.
@@ -103,19 +94,13 @@ pub fn write_export_header(
     program: &[u8],
     created: &[u8],
     out: &mut [u8],
-) -> Written
+) -> Result<usize, Refusal>
     ensures value { result ≡ answer_of (all_utf8 version.now program.now created.now) (export_header version.now program.now created.now) (length out.old) }
     ensures out_after { out.new ≡ output_by result out.old (export_header version.now program.now created.now) }
 {
     if !are_utf8(version, program, created) {
-        return Written::Unwritten(Refusal::BadRow);
+        return Err(Refusal::BadRow);
     }
-    let fits = refusals::fit(
-        Written::Bytes(export_size(version, program, created)),
-        out.len(),
-    );
-    match fits {
-        Written::Unwritten(why) => Written::Unwritten(why),
-        Written::Bytes(_) => Written::Bytes(put_export(out, version, program, created)),
-    }
+    refusals::fit(Ok(export_size(version, program, created)), out.len())?;
+    Ok(put_export(out, version, program, created))
 }

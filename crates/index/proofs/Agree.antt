@@ -1,4 +1,4 @@
--- What it means that the promise of a function that is walked by hand determines its call, as `Once` of `text` says it of the others: of two
+-- What it means that a promise over a lent slice of structs determines its call, as `Once` of `text` says it of the others: of two
 -- answers that both meet it for the same arguments each is the other, and so is what `lent` reads off the parameters as the call leaves
 -- them. Assumes nothing.
 use mathlib.Core.Path.{◌≡◌}

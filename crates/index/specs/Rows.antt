@@ -2,11 +2,9 @@
 -- 0 the last contact of the chain of this number, 1 the contact before this one in its own chain (both by number and one, 0 for none),
 -- 2 the code of its call, mode and band, 3 and 4 the id, 5 the services, 6 to 10 the places of the length bytes of call, date, time,
 -- band and mode in the list, 11 whether it has a moment, 12 and 13 the seconds of that. A number of 64 bits has its low half first.
-use Rattle.std.specs.Prelude.{ℕ, zero, suc, ◌+◌, ◌*◌, ◌/◌, ◌%◌, ◌≡◌, refl, List, [], ◌∷◌, replicate}
+use Rattle.std.specs.Prelude.{ℕ, zero, suc, ◌+◌, ◌*◌, ◌/◌, ◌%◌, ◌≡◌, refl, List, [], ◌∷◌, replicate, Option, Some, None}
 use Rattle.letters.specs.Capitals.{raised, capitals}
 use Rattle.times.specs.Moments.{moment_of}
-use Rattle.times.specs.declared.Moment.{Moment}
-use Rattle.times.specs.declared.Moment.TheVariants.{At, Never}
 use Rattle.contacts.specs.Lists.{text_at, call_at, date_at, time_at, band_at, mode_at, end_at, id_at, services_at}
 
 abbrev pub Row : Type 0
@@ -22,17 +20,17 @@ abbrev pub joined : ℕ → ℕ → ℕ
 joined l h = l + h * 4294967296
 
 -- a moment as two numbers: whether there is one, and its seconds
-unfoldable pub has_moment : Moment → ℕ
-has_moment (At seconds) = 1
-has_moment Never = 0
+unfoldable pub has_moment : Option ℕ → ℕ
+has_moment (Some seconds) = 1
+has_moment None = 0
 
-unfoldable pub seconds_in : Moment → ℕ
-seconds_in (At seconds) = seconds
-seconds_in Never = 0
+unfoldable pub seconds_in : Option ℕ → ℕ
+seconds_in (Some seconds) = seconds
+seconds_in None = 0
 
-unfoldable pub moment_from : ℕ → ℕ → Moment
-moment_from zero seconds = Never
-moment_from (suc _) seconds = At seconds
+unfoldable pub moment_from : ℕ → ℕ → Option ℕ
+moment_from zero seconds = None
+moment_from (suc _) seconds = Some seconds
 
 -- a number that contacts of one key share: bytes mixed into it one by one, in capitals
 unfoldable pub mix : ℕ → ℕ → ℕ
@@ -46,7 +44,7 @@ unfoldable pub code_of : List ℕ → List ℕ → List ℕ → ℕ
 code_of call mode band = mixed (mixed (mixed 0 (capitals call)) (capitals mode)) (capitals band)
 
 -- the record with these parts
-unfoldable pub row_of : ℕ → ℕ → ℕ → ℕ → ℕ → ℕ → ℕ → ℕ → Moment → Row
+unfoldable pub row_of : ℕ → ℕ → ℕ → ℕ → ℕ → ℕ → ℕ → ℕ → Option ℕ → Row
 row_of code id services call date time band mode moment =
     0 ∷ 0 ∷ code ∷ low id ∷ high id ∷ services ∷ call ∷ date ∷ time ∷ band ∷ mode ∷ has_moment moment ∷ low (seconds_in moment) ∷ high (seconds_in moment) ∷ []
 

@@ -7,8 +7,6 @@ ghost use Rattle.letters.specs.Capitals.{capitals};
 ghost use Rattle.index.specs.Rows.{mix, mixed, code_of, low, high, has_moment, seconds_in, row_of, joined, row_by, row_at};
 ghost use Rattle.index.specs.Contacts.{contact_of, numbers_of};
 
-use times::Moment;
-
 // A contact in a lent index. There is no gap between the numbers, so that each byte of a record is determined.
 #[repr(C)]
 #[derive(Clone, Copy)]
@@ -42,10 +40,8 @@ fn stir_in_capitals(h: u32, s: &[u8]) -> u32
     ensures { result ≡ mixed h (capitals s.now) }
 {
     let mut x = h;
-    let mut i = 0;
-    while i < s.len() {
-        x = stir(x, letters::raise(s[i]));
-        i += 1;
+    for &b in s {
+        x = stir(x, letters::raise(b));
     }
     x
 }
@@ -69,22 +65,16 @@ pub fn high_half(n: u64) -> u32
     (n / HALF) as u32
 }
 
-pub fn has_moment(m: Moment) -> u32
+pub fn has_moment(m: Option<u64>) -> u32
     ensures { result ≡ has_moment m }
 {
-    match m {
-        Moment::At(_) => 1,
-        Moment::Never => 0,
-    }
+    m.is_some() as u32
 }
 
-pub fn seconds_in(m: Moment) -> u64
+pub fn seconds_in(m: Option<u64>) -> u64
     ensures { result ≡ seconds_in m }
 {
-    match m {
-        Moment::At(seconds) => seconds,
-        Moment::Never => 0,
-    }
+    m.unwrap_or(0)
 }
 
 fn row_of(
@@ -96,7 +86,7 @@ fn row_of(
     time: u32,
     band: u32,
     mode: u32,
-    moment: Moment,
+    moment: Option<u64>,
 ) -> [u32; 14]
     ensures { result ≡ row_of code id services call date time band mode moment }
 {

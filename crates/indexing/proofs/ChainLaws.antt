@@ -129,14 +129,3 @@ module _ (n : ℕ) (was : List Contact) (hn : n ≤ length was) where
 
   pub linking_end : (k : ℕ) (zs : List Contact) → Linking n was k zs → n ≤ k → plain zs ≡ chained n n (plain was)
   linking_end k zs q h = link_end n (plain was) fits (plain zs) k q.chains q.within h
-
--- ---- what the code makes of the numbers
-pub chain_is : (c : Contact) (r : Row) (p n : ℕ) → r ≡ numbers_of c → p ≡ get_or r 2 0 → p % n ≡ get_or (numbers_of c) 2 0 % n
-chain_is c r p n e f = rw (f, e) refl
-
-pub front_is : (c other x : Contact) (r t u : Row) (h : ℕ) → t ≡ numbers_of other → h ≡ get_or t 0 0 → r ≡ numbers_of c → u ≡ with_next r h → x ≡ contact_of u
-    → x ≡ contact_of (with_next (numbers_of c) (get_or (numbers_of other) 0 0))
-front_is c other x r t u h et eh er eu ex = ex ∙ rw (eu, er, eh, et) refl
-
-pub begun_is : (c x : Contact) (r u : Row) (k : ℕ) → r ≡ numbers_of c → u ≡ with_head r (k + 1) → x ≡ contact_of u → x ≡ contact_of (with_head (numbers_of c) (k + 1))
-begun_is c x r u k er eu ex = ex ∙ rw (eu, er) refl

@@ -1,12 +1,12 @@
 -- The index of a list: a record for each contact, with the chains of the contacts whose codes leave one remainder. Nobody above has to
 -- know how it looks inside: it is `index_of`, and `search` finds in it.
-use Rattle.std.specs.Prelude.{ℕ, zero, suc, ◌-◌, ◌%◌, ◌≤◌, ◌≡◌, List, [], ◌∷◌, ◌++◌, length, get_or, set, replicate, ltb}
+use Rattle.refusals.specs.declared.Refusal.{Refusal}
+use Rattle.contacts.specs.declared.Mark.{Mark}
+use Rattle.std.specs.Prelude.{ℕ, zero, suc, ◌-◌, ◌%◌, ◌≤◌, ◌≡◌, List, [], ◌∷◌, ◌++◌, length, get_or, set, replicate, ltb, Result, Ok, Err}
 use Rattle.text.specs.Pick.{pick}
 use Rattle.chain.specs.Chain.{col}
 use Rattle.refusals.specs.declared.Refusal.TheVariants.{ShortTable}
 use Rattle.contacts.specs.Lists.{entries_from, count_of, listed_as, end_at}
-use Rattle.contacts.specs.declared.Listed.{Listed}
-use Rattle.contacts.specs.declared.Listed.TheVariants.{Marked, Refused}
 use Rattle.index.specs.Rows.{Row, row_at, rows_from, no_row}
 
 -- a record with another head, with another next
@@ -58,24 +58,24 @@ index_of s m = chained (count_of s) (count_of s) (bare_of s m)
 
 -- ---- what building the index of a list in m lent records answers: the mark; the list's refusal; 19 where there are fewer records than
 -- contacts
-unfoldable pub indexed_by : ℕ → Listed → Listed
-indexed_by m (Marked n top) = pick (ltb m n) (Refused ShortTable) (Marked n top)
-indexed_by m (Refused why) = Refused why
+unfoldable pub indexed_by : ℕ → Result Mark Refusal → Result Mark Refusal
+indexed_by m (Ok m') = pick (ltb m m'.contacts) (Err ShortTable) (Ok m')
+indexed_by m (Err why) = Err why
 
-unfoldable pub indexed_as : List ℕ → ℕ → Listed
+unfoldable pub indexed_as : List ℕ → ℕ → Result Mark Refusal
 indexed_as s m = indexed_by m (listed_as s)
 
 -- and what it leaves in them: zero throughout after a refusal
-unfoldable pub index_by : Listed → List ℕ → ℕ → List Row
-index_by (Marked n top) s m = index_of s m
-index_by (Refused why) s m = replicate m no_row
+unfoldable pub index_by : Result Mark Refusal → List ℕ → ℕ → List Row
+index_by (Ok m') s m = index_of s m
+index_by (Err why) s m = replicate m no_row
 
 unfoldable pub index_after : List ℕ → ℕ → List Row
 index_after s m = index_by (indexed_as s m) s m
 
 -- ---- the entries are good: k of n are left, from `at` on
 unfoldable pub Checked : List ℕ → ℕ → ℕ → ℕ → Type 0
-Checked s n k at = (last : ℕ) × (top : ℕ) × (entries_from s n k at last ≡ Marked n top)
+Checked s n k at = (last : ℕ) × (top : ℕ) × (entries_from s n k at last ≡ Ok (record { contacts = n; largest = top }))
 
 -- a list with n contacts, as it was accepted
 pub record Sound (s : List ℕ) (n : ℕ) : Type 0 where
@@ -84,6 +84,6 @@ pub record Sound (s : List ℕ) (n : ℕ) : Type 0 where
   pub checked : Checked s n n 5
 
 -- how many contacts a list has, none where it is refused
-unfoldable pub count_in : Listed → ℕ
-count_in (Marked n top) = n
-count_in (Refused why) = 0
+unfoldable pub count_in : Result Mark Refusal → ℕ
+count_in (Ok m) = m.contacts
+count_in (Err why) = 0

@@ -9,7 +9,7 @@ ghost use Rattle.index.specs.Rows.{rows_from, no_row};
 ghost use Rattle.index.specs.Contacts.{contact_of, numbers_of, plain};
 ghost use Rattle.indexing.specs.Index.{with_head, with_next, record_at, place_after, chained, indexed_as, index_after, count_in, Sound};
 
-use contacts::Listed;
+use contacts::Mark;
 use index::Contact;
 use refusals::Refusal;
 
@@ -46,35 +46,11 @@ pub fn fill(list: &[u8], rows: &mut [Contact], n: usize, to: usize)
     requires { (n ≤ to) × (to ≤ length rows.old) × (0 < n → Sound list.now n) }
     ensures { plain rows.new ≡ sets (plain rows.old) 0 (rows_from list.now n 5 ++ replicate (to - n) no_row) }
 {
-    let mut at = 5;
-    let mut k = 0;
-    while k < to {
+    let mut at = contacts::ENTRIES;
+    for k in 0..to {
         rows[k] = record_at(list, at, k, n);
         at = place_after(list, at, k, n);
-        k += 1;
     }
-}
-
-fn with_head(r: [u32; 14], v: u32) -> [u32; 14]
-    ensures { result ≡ with_head r v }
-{
-    [
-        v, r[1], r[2], r[3], r[4], r[5], r[6], r[7], r[8], r[9], r[10], r[11], r[12], r[13],
-    ]
-}
-
-fn with_next(r: [u32; 14], v: u32) -> [u32; 14]
-    ensures { result ≡ with_next r v }
-{
-    [
-        r[0], v, r[2], r[3], r[4], r[5], r[6], r[7], r[8], r[9], r[10], r[11], r[12], r[13],
-    ]
-}
-
-fn head_in(r: [u32; 14]) -> u32
-    ensures { result ≡ get_or r 0 0 }
-{
-    r[0]
 }
 
 // The chain of a contact's code, of n.
@@ -82,15 +58,17 @@ fn chain_of(c: Contact, n: usize) -> usize
     requires { 0 < n }
     ensures { result ≡ get_or (numbers_of c) 2 0 % n }
 {
-    index::number_in(index::numbers_of(c), 2) % n
+    c.code as usize % n
 }
 
 // The contact, in front of what the chain of `first` begins with.
 fn in_front(c: Contact, first: Contact) -> Contact
     ensures { result ≡ contact_of (with_next (numbers_of c) (get_or (numbers_of first) 0 0)) }
 {
-    let head = head_in(index::numbers_of(first));
-    index::contact_of(with_next(index::numbers_of(c), head))
+    Contact {
+        next: first.head,
+        ..c
+    }
 }
 
 // The first of a chain, which now begins with contact k.
@@ -98,7 +76,10 @@ fn begun_with(first: Contact, k: usize) -> Contact
     requires { k + 1 < 4294967296 }
     ensures { result ≡ contact_of (with_head (numbers_of first) (k + 1)) }
 {
-    index::contact_of(with_head(index::numbers_of(first), (k + 1) as u32))
+    Contact {
+        head: (k + 1) as u32,
+        ..first
+    }
 }
 
 // The chains of the first n records, which are in none: each goes to the front of the chain of its code's remainder.
@@ -106,48 +87,38 @@ fn link(rows: &mut [Contact], n: usize)
     requires { (n ≤ length rows.old) × (n < 4294967296) }
     ensures { plain rows.new ≡ chained n n (plain rows.old) }
 {
-    let mut k = 0;
-    while k < n {
+    for k in 0..n {
         let c = rows[k];
         let b = chain_of(c, n);
         rows[k] = in_front(c, rows[b]);
         rows[b] = begun_with(rows[b], k);
-        k += 1;
     }
 }
 
 // The list's mark, where there is a record for each contact.
-pub fn listed_in(list: &[u8], records: usize) -> Listed
+pub fn listed_in(list: &[u8], records: usize) -> Result<Mark, Refusal>
     ensures value { result ≡ indexed_as list.now records }
     ensures few { Few result }
 {
-    let listed = contacts::check(list);
-    match listed {
-        Listed::Refused(why) => Listed::Refused(why),
-        Listed::Marked { contacts, largest } => {
-            if records < contacts {
-                return Listed::Refused(Refusal::ShortTable);
-            }
-            Listed::Marked { contacts, largest }
-        }
+    let mark = contacts::check(list)?;
+    if records < mark.contacts {
+        return Err(Refusal::ShortTable);
     }
+    Ok(mark)
 }
 
 // How many contacts; none where the list is refused.
-pub fn count_in(listed: Listed) -> usize
+pub fn count_in(listed: Result<Mark, Refusal>) -> usize
     ensures { result ≡ count_in listed }
 {
     match listed {
-        Listed::Marked {
-            contacts,
-            largest: _,
-        } => contacts,
-        Listed::Refused(_) => 0,
+        Ok(mark) => mark.contacts,
+        Err(_) => 0,
     }
 }
 
 // The index of a list. What the records held before is of no account.
-pub fn build(list: &[u8], rows: &mut [Contact]) -> Listed
+pub fn build(list: &[u8], rows: &mut [Contact]) -> Result<Mark, Refusal>
     ensures value { result ≡ indexed_as list.now (length rows.old) }
     ensures rows_after { plain rows.new ≡ index_after list.now (length rows.old) }
 {

@@ -1,4 +1,5 @@
 -- The walk down a chain finds whether an earlier importable record is alike. Assumes nothing.
+use Rattle.std.specs.Prelude.{Option}
 use mathlib.Core.Path.{◌≡◌, refl, sym, ap, ◌∙◌}
 use mathlib.Core.Bool.{Bool, true, false}
 use mathlib.Core.List.{List, []}
@@ -13,7 +14,6 @@ use Rattle.text.specs.Space.{trimmed}
 use Rattle.text.proofs.BoolLaws.{cases, both_left, both_right, both_no, both_yes}
 use Rattle.letters.specs.Same.{same, same_raised}
 use Rattle.letters.proofs.SameLaws.{same_true, same_raised_true}
-use Rattle.times.specs.declared.Moment.{Moment}
 use Rattle.tables.specs.Place.{bytes}
 use Rattle.dedupe.specs.Keys.{in_file}
 use Rattle.dedupe.specs.Views.{keys_in_file}
@@ -30,22 +30,21 @@ module _ (text : List ℕ) (r s : Row) (limit : ℕ) where
   abbrev Test : Bool
   Test = both (eqb (get_or r 4 0) (get_or s 4 0)) (alike text limit r s)
 
-  module _ (p q : ℕ) (ep : p ≡ get_or r 4 0) (eq : q ≡ get_or s 4 0) where
-    pub other_code : (p ≡ q → ⊥) → false ≡ Test
-    other_code n = rw (ne_eqb (get_or r 4 0) (get_or s 4 0) (λ z. n (ep ∙ z ∙ sym eq))) refl
+  pub other_code : (get_or r 4 0 ≡ get_or s 4 0 → ⊥) → false ≡ Test
+  other_code n = rw (ne_eqb (get_or r 4 0) (get_or s 4 0) n) refl
 
-    module _ (f : p ≡ q) (x y : Moment) (t : Bool) (ex : x ≡ moment_in r) (ey : y ≡ moment_in s) (et : t ≡ near x y limit) where
-      pub other_time : t ≡ false → false ≡ Test
-      unfolding alike
-      other_time n =
-          let u : near (moment_in r) (moment_in s) limit ≡ false = rw (← ex, ← ey, ← et) n in
-          rw (eq-eqb (get_or r 4 0) (get_or s 4 0) (sym ep ∙ f ∙ eq), u) (sym (both_no (keys_in_file text (key_in r) text (key_in s))))
+  module _ (f : get_or r 4 0 ≡ get_or s 4 0) (x y : Option ℕ) (t : Bool) (ex : x ≡ moment_in r) (ey : y ≡ moment_in s) (et : t ≡ near x y limit) where
+    pub other_time : t ≡ false → t ≡ Test
+    unfolding alike
+    other_time n =
+        let u : near (moment_in r) (moment_in s) limit ≡ false = rw (← ex, ← ey, ← et) n in
+        n ∙ rw (eq-eqb (get_or r 4 0) (get_or s 4 0) f, u) (sym (both_no (keys_in_file text (key_in r) text (key_in s))))
 
-      pub same_time : t ≡ true → (k o : Key) (v : Bool) → k ≡ key_in r → o ≡ key_in s → v ≡ keys_in_file text k text o → v ≡ Test
-      unfolding alike
-      same_time n k o v ek eo ev =
-          let u : near (moment_in r) (moment_in s) limit ≡ true = rw (← ex, ← ey, ← et) n in
-          rw (eq-eqb (get_or r 4 0) (get_or s 4 0) (sym ep ∙ f ∙ eq), u) (ev ∙ rw (ek, eo) refl ∙ sym (both_yes (keys_in_file text (key_in r) text (key_in s))))
+    pub same_time : t ≡ true → (k o : Key) (v : Bool) → k ≡ key_in r → o ≡ key_in s → v ≡ keys_in_file text k text o → v ≡ Test
+    unfolding alike
+    same_time n k o v ek eo ev =
+        let u : near (moment_in r) (moment_in s) limit ≡ true = rw (← ex, ← ey, ← et) n in
+        rw (eq-eqb (get_or r 4 0) (get_or s 4 0) f, u) (ev ∙ rw (ek, eo) refl ∙ sym (both_yes (keys_in_file text (key_in r) text (key_in s))))
 
 -- ---- what is alike has the same code
 key_code : (call mode band call' mode' band' : List ℕ) → in_file call mode band call' mode' band' ≡ true → file_code call mode band ≡ file_code call' mode' band'

@@ -8,9 +8,8 @@ ghost use Rattle.entries.specs.Row.{moment_in};
 ghost use Rattle.infile.specs.Infile.{alike, repeated_in, Chained, with_head, with_next, pushed};
 
 use entries::{key_in, number_in, with_number};
-use times::Moment;
 
-pub fn moment_in(row: [u32; 28]) -> Moment
+pub fn moment_in(row: [u32; 28]) -> Option<u64>
     ensures { result ≡ moment_in row }
 {
     search::moment_from(row[17], row[18], row[19])
@@ -20,13 +19,11 @@ pub fn moment_in(row: [u32; 28]) -> Moment
 fn is_alike(text: &[u8], earlier: [u32; 28], row: [u32; 28], limit: u64) -> bool
     ensures { result ≡ both (eqb (get_or earlier 4 0) (get_or row 4 0)) (alike text.now limit earlier row) }
 {
-    if number_in(earlier, 4) != number_in(row, 4) {
+    if earlier[4] != row[4] {
         return false;
     }
-    if !search::is_near(moment_in(earlier), moment_in(row), limit) {
-        return false;
-    }
-    dedupe::in_file(text, key_in(earlier), text, key_in(row))
+    search::is_near(moment_in(earlier), moment_in(row), limit)
+        && dedupe::in_file(text, key_in(earlier), text, key_in(row))
 }
 
 // Record k of n repeats an earlier importable one.
@@ -35,6 +32,7 @@ pub fn is_repeated(text: &[u8], rows: &[[u32; 28]], n: usize, k: usize, limit: u
     ensures { result ≡ repeated_in text.now limit rows.now k }
 {
     let b = number_in(rows[k], 4) % n;
+    // Kept: a chain is followed, whose length is no number.
     let mut at = number_in(rows[b], 2);
     while at != 0 {
         let i = at - 1;

@@ -1,5 +1,5 @@
 -- Laws of `specs/Capitals.antt`. Assumes nothing.
-use mathlib.Core.Path.{◌≡◌, refl, sym, ◌∙◌}
+use mathlib.Core.Path.{◌≡◌, refl}
 use mathlib.Core.Bool.{Bool, true, false}
 use mathlib.Core.List.{List, [], ◌∷◌}
 use Prim.Native.Nat.{ℕ, ◌-◌, ◌≤◌}
@@ -8,23 +8,6 @@ use lib.Dec.{leb}
 use borrow.Author.Tests.{leb-true, lt-leb}
 use Rattle.text.specs.Pick.{pick, both, within}
 use Rattle.letters.specs.Capitals.{raised, capitals}
-
--- a byte b, tested for a small letter
-module _ (b : ℕ) (t : Bool) (e : t ≡ within b 0x61 0x7A) where
-  pub small_letter : t ≡ true → 0x20 ≤ b
-  small_letter h = by (leb 0x61 b) refl (sym e ∙ h)
-    where
-      by : (x : Bool) → leb 0x61 b ≡ x → both x (leb b 0x7A) ≡ true → 0x20 ≤ b
-      by true p q = omega (arith, leb-true 0x61 b p)
-      by false p q = absurd (let z : ◌≡◌ {A = ℕ} 0 1 = cc in omega arith)
-
-  pub raised_letter : t ≡ true → b - 0x20 ≡ raised b
-  unfolding raised
-  raised_letter h = simp (← e, h)
-
-  pub raised_other : t ≡ false → b ≡ raised b
-  unfolding raised
-  raised_other h = simp (← e, h)
 
 -- a capital is no small letter
 pub raised_twice : (b : ℕ) → raised (raised b) ≡ raised b

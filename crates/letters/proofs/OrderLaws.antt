@@ -1,4 +1,6 @@
 -- Laws of `specs/Order.antt`: the order is strict, total and transitive; and what a loop over both texts asks. Assumes nothing.
+use Rattle.std.specs.declared.cmp.Ordering.{Ordering}
+use Rattle.std.specs.declared.cmp.Ordering.TheVariants.{Less, Equal, Greater}
 use mathlib.Core.Path.{◌≡◌, refl, sym, ◌∙◌}
 use mathlib.Core.Bool.{Bool, true, false}
 use mathlib.Core.List.{List, [], ◌∷◌}
@@ -11,8 +13,6 @@ use lib.Dec.{ltb}
 use borrow.Author.Tests.{lt-ltb, le-ltb, ltb-true, ltb-false}
 use Rattle.letters.specs.Capitals.{raised, capitals}
 use Rattle.letters.specs.Order.{order, order_raised}
-use Rattle.letters.specs.declared.Order.{Order}
-use Rattle.letters.specs.declared.Order.TheVariants.{Less, Equal, Greater}
 
 -- no two answers are one
 less_equal : Less ≡ Equal → ⊥
@@ -108,7 +108,7 @@ order_trans (x ∷ xs) (y ∷ ys) (z ∷ zs) p q = by (first x y xs ys) (first y
         first_same x z xs zs (h ∙ g) ∙ k (sym (first_same x y xs ys h) ∙ p) (sym (first_same y z ys zs g) ∙ q)
 
 -- what a loop carries: from i on the two compare as the whole, x and y being the two bytes at i, raised
-module _ (a b : List ℕ) (i : ℕ) (r : Order) (q : order_raised (drop i a) (drop i b) ≡ r) where
+module _ (a b : List ℕ) (i : ℕ) (r : Ordering) (q : order_raised (drop i a) (drop i b) ≡ r) where
   module _ (h : i < length a) where
     pub second_ended : length b ≤ i → Greater ≡ r
     unfolding order_raised

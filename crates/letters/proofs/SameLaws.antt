@@ -1,14 +1,12 @@
--- Laws of `specs/Same.antt`: the test says what it seems to say, and what a loop over both texts asks. Assumes nothing.
+-- Laws of `specs/Same.antt`: the test says what it seems to say. Assumes nothing.
 use mathlib.Core.Path.{◌≡◌, refl, sym, ap}
 use mathlib.Core.Bool.{Bool, true, false}
 use mathlib.Core.List.{List, [], ◌∷◌}
-use Prim.Native.Nat.{ℕ, suc, ◌+◌, ◌≤◌, ◌<◌}
-use native.Mathlib.Numerals.{add-one}
+use Prim.Native.Nat.{ℕ, suc}
 use native.Mathlib.Omega.{arith}
-use lib.ListN.{length, get_or, drop, drop_of_length-le}
-use lib.Seq.{drop-cons}
+use lib.ListN.{length}
 use lib.Dec.{eqb}
-use borrow.Author.Tests.{eq-eqb, ne_eqb, eqb-true}
+use borrow.Author.Tests.{eq-eqb, eqb-true}
 use Rattle.text.specs.Pick.{both}
 use Rattle.text.proofs.BoolLaws.{both_no}
 use Rattle.letters.specs.Capitals.{raised, capitals}
@@ -49,40 +47,3 @@ lengths_differ_raised [] (y ∷ ys) h = refl
 lengths_differ_raised (x ∷ xs) [] h = refl
 lengths_differ_raised (x ∷ xs) (y ∷ ys) h =
     rw (← lengths_differ_raised xs ys (λ e. h (ap suc e))) (sym (both_no (eqb (raised x) (raised y))))
-
--- what a loop carries: from i on the two compare as the whole
-module _ (a b : List ℕ) (i : ℕ) (r : Bool) (q : same (drop i a) (drop i b) ≡ r) where
-  module _ (h : i < length a) (l : length a ≡ length b) where
-    cut : same (get_or a i 0 ∷ drop (suc i) a) (get_or b i 0 ∷ drop (suc i) b) ≡ r
-    cut =
-        let k : i < length b = omega arith in
-        rw (drop-cons a i 0 h, drop-cons b i 0 k) at q
-
-    pub differs : (get_or a i 0 ≡ get_or b i 0 → ⊥) → false ≡ r
-    differs n = simp (ne_eqb (get_or a i 0) (get_or b i 0) n) at cut
-
-    pub agrees : get_or a i 0 ≡ get_or b i 0 → same (drop (i + 1) a) (drop (i + 1) b) ≡ r
-    agrees n = rw add-one (simp (eq-eqb (get_or a i 0) (get_or b i 0) n) at cut)
-
-  pub ended : length a ≤ i → length a ≡ length b → true ≡ r
-  ended h l = simp (drop_of_length-le a h, drop_of_length-le b {i = i} (omega arith)) at q
-
--- the same in capitals: x and y are the two bytes at i, raised
-module _ (a b : List ℕ) (i : ℕ) (r : Bool) (q : same_raised (drop i a) (drop i b) ≡ r) where
-  module _ (x y : ℕ) (h : i < length a) (l : length a ≡ length b) (ex : x ≡ raised (get_or a i 0)) (ey : y ≡ raised (get_or b i 0)) where
-    cut_raised : same (capitals (get_or a i 0 ∷ drop (suc i) a)) (capitals (get_or b i 0 ∷ drop (suc i) b)) ≡ r
-    unfolding same_raised
-    cut_raised =
-        let k : i < length b = omega arith in
-        rw (drop-cons a i 0 h, drop-cons b i 0 k) at q
-
-    pub differs_raised : (x ≡ y → ⊥) → false ≡ r
-    differs_raised n = simp (← ex, ← ey, ne_eqb x y n) at cut_raised
-
-    pub agrees_raised : x ≡ y → same_raised (drop (i + 1) a) (drop (i + 1) b) ≡ r
-    unfolding same_raised
-    agrees_raised n = rw add-one (simp (← ex, ← ey, eq-eqb x y n) at cut_raised)
-
-  pub ended_raised : length a ≤ i → length a ≡ length b → true ≡ r
-  unfolding same_raised
-  ended_raised h l = simp (drop_of_length-le a h, drop_of_length-le b {i = i} (omega arith)) at q

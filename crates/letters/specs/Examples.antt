@@ -1,9 +1,9 @@
 -- Worked examples.
+use Rattle.std.specs.declared.cmp.Ordering.TheVariants.{Less, Greater}
 use Rattle.std.specs.Prelude.{◌≡◌, refl, true, false, [], ◌∷◌}
 use Rattle.letters.specs.Capitals.{raised, capitals}
 use Rattle.letters.specs.Same.{same, same_raised}
 use Rattle.letters.specs.Order.{order_raised}
-use Rattle.letters.specs.declared.Order.TheVariants.{Less, Greater}
 
 -- "w1aw" in capitals is "W1AW"
 call : capitals (119 ∷ 49 ∷ 97 ∷ 119 ∷ []) ≡ 87 ∷ 49 ∷ 65 ∷ 87 ∷ []

@@ -6,81 +6,39 @@ ghost use Rattle.letters.specs.Capitals.{raised};
 ghost use Rattle.letters.specs.Same.{same, same_raised};
 ghost use Rattle.letters.specs.Order.{order_raised};
 
-// As Rust's `Ordering`.
-#[derive(Clone, Copy)]
-pub enum Order {
-    Less,
-    Equal,
-    Greater,
-}
+use std::cmp::Ordering;
 
 // A letter a to z as A to Z, any other byte as it is.
+#[tactic(auto, unfolding(crate::specs::Capitals::raised))]
 pub fn raise(b: u8) -> u8
     ensures { result ≡ raised b }
 {
-    if text::inside(b, 0x61, 0x7A) {
-        b - 0x20
-    } else {
-        b
-    }
+    b.to_ascii_uppercase()
 }
 
 pub fn same(a: &[u8], b: &[u8]) -> bool
     ensures { result ≡ same a.now b.now }
 {
-    if a.len() != b.len() {
-        return false;
-    }
-    let mut i = 0;
-    while i < a.len() {
-        if a[i] != b[i] {
-            return false;
-        }
-        i += 1;
-    }
-    true
+    a == b
 }
 
 // The two are the same but for the case of their letters.
 pub fn same_raised(a: &[u8], b: &[u8]) -> bool
     ensures { result ≡ same_raised a.now b.now }
 {
-    if a.len() != b.len() {
-        return false;
-    }
-    let mut i = 0;
-    while i < a.len() {
-        if raise(a[i]) != raise(b[i]) {
-            return false;
-        }
-        i += 1;
-    }
-    true
+    a.eq_ignore_ascii_case(b)
 }
 
 // The byte order of the two in capitals.
 #[tactic(auto, using(crate::proofs::OrderLaws::second_ended, crate::proofs::OrderLaws::at_below, crate::proofs::OrderLaws::at_above, crate::proofs::OrderLaws::at_level, crate::proofs::OrderLaws::first_ended, crate::proofs::OrderLaws::both_ended))]
-pub fn order_raised(a: &[u8], b: &[u8]) -> Order
+pub fn order_raised(a: &[u8], b: &[u8]) -> Ordering
     ensures { result ≡ order_raised a.now b.now }
 {
-    let mut i = 0;
-    while i < a.len() {
-        if b.len() <= i {
-            return Order::Greater;
+    for i in 0..a.len().min(b.len()) {
+        let order = raise(a[i]).cmp(&raise(b[i]));
+        if order.is_ne() {
+            return order;
         }
-        let x = raise(a[i]);
-        let y = raise(b[i]);
-        if x < y {
-            return Order::Less;
-        }
-        if y < x {
-            return Order::Greater;
-        }
-        i += 1;
     }
-    if i < b.len() {
-        Order::Less
-    } else {
-        Order::Equal
-    }
+    a.len().cmp(&b.len())
 }

@@ -1,4 +1,5 @@
 -- A contact appended to the list of others gives the list of all of them. Assumes nothing.
+use Rattle.std.specs.Prelude.{⊤, Result, Ok, Err}
 use mathlib.Core.Path.{◌≡◌, refl, sym, ap, ◌∙◌}
 use mathlib.Core.Bool.{true}
 use mathlib.Core.List.{List, [], ◌∷◌, ◌++◌, append_assoc, append-nil}
@@ -12,49 +13,45 @@ use Rattle.text.specs.Pick.{both}
 use Rattle.text.proofs.BoolLaws.{cases, both_left, both_right}
 use Rattle.refusals.specs.declared.Refusal.{Refusal}
 use Rattle.refusals.specs.declared.Refusal.TheVariants.{TooLong, ShortOutput, MalformedList, IdsNotRising}
-use Rattle.refusals.specs.declared.Verdict.{Verdict}
-use Rattle.refusals.specs.declared.Verdict.TheVariants.{Accepted, Refused as Unheaded}
 use Rattle.contacts.specs.Contacts.{Contact, id_of, sound, sound_from, bytes_of, entry_text, entries_text, list_text, largest}
 use Rattle.contacts.specs.Lists.{Says}
 use Rattle.listwriter.specs.Append.{is_long, heading_of, placed_as, entered_as, headed_by, append_as, append_by, append_after}
-use Rattle.listwriter.specs.declared.Appended.{Appended}
-use Rattle.listwriter.specs.declared.Appended.TheVariants.{Bytes, Refused}
 use Rattle.listwriter.proofs.ReadBack.{bytes_length, last_of, largest_is}
 use Rattle.listwriter.proofs.HeadingLaws.{front_length}
 
-refused_bytes : {P : Type 0} (n : ℕ) (why : Refusal) → Refused why ≡ Bytes n → P
+refused_bytes : {P : Type 0} (n : ℕ) (why : Refusal) → Err why ≡ Ok n → P
 refused_bytes n why e = absurd (let z : ◌≡◌ {A = ℕ} 0 1 = cc in omega arith)
 
 -- what an answer that is a length tells
 pub record Taken (used count top n : ℕ) (c : Contact) (was : List ℕ) : Type 0 where
-  pub heading : heading_of (take used was) count ≡ Accepted
+  pub heading : heading_of (take used was) count ≡ Ok tt
   pub good : sound c ≡ true
   pub above : top < id_of c
   pub end : used + length (entry_text c) ≡ n
   pub short : n ≤ 16777216
   pub fits : n ≤ length was
 
-placed : (end room n : ℕ) → placed_as end room ≡ Bytes n → (end ≡ n) × (end ≤ 16777216) × (end ≤ room)
+placed : (end room n : ℕ) → placed_as end room ≡ Ok n → (end ≡ n) × (end ≤ 16777216) × (end ≤ room)
 unfolding placed_as
 placed end room n e =
     cases (leb end 16777216)
     (λ u. cases (leb end room)
-    (λ v. let z : Bytes end ≡ Bytes n = rw (u, v) at e in (cc, leb-true end 16777216 u, leb-true end room v))
+    (λ v. let z : Ok end ≡ Ok n = rw (u, v) at e in (cc, leb-true end 16777216 u, leb-true end room v))
     (λ v. refused_bytes n ShortOutput (rw (u, v) at e)))
     (λ u. refused_bytes n TooLong (rw u at e))
 
-behind_heading : (v : Verdict) (r : Appended) (n : ℕ) → headed_by v r ≡ Bytes n → (v ≡ Accepted) × (r ≡ Bytes n)
+behind_heading : (v : Result ⊤ Refusal) (r : Result ℕ Refusal) (n : ℕ) → headed_by v r ≡ Ok n → (v ≡ Ok tt) × (r ≡ Ok n)
 unfolding headed_by
-behind_heading Accepted r n e = (refl, e)
-behind_heading (Unheaded why) r n e = refused_bytes n why e
+behind_heading (Ok tt) r n e = (refl, e)
+behind_heading (Err why) r n e = refused_bytes n why e
 
-pub taken : (used count top : ℕ) (c : Contact) (was : List ℕ) (n : ℕ) → append_as used count top c was ≡ Bytes n → Taken used count top n c was
+pub taken : (used count top : ℕ) (c : Contact) (was : List ℕ) (n : ℕ) → append_as used count top c was ≡ Ok n → Taken used count top n c was
 unfolding append_as entered_as
 taken used count top c was n e =
     cases (is_long used c)
     (λ l. refused_bytes n TooLong (rw l at e))
     (λ l. let h = behind_heading (heading_of (take used was) count) (entered_as used top c (length was)) n (rw l at e) in
-    let q : entered_as used top c (length was) ≡ Bytes n = h.1 in
+    let q : entered_as used top c (length was) ≡ Ok n = h.1 in
     cases (sound c)
     (λ g. cases (ltb top (id_of c))
     (λ a. let p = placed (used + length (entry_text c)) (length was) n (rw (g, a) at q) in
@@ -83,7 +80,7 @@ unfolding entries_text
 entries_more [] c = append-nil (entry_text c)
 entries_more (d ∷ cs) c = ap (λ (r : List ℕ). entry_text d ++ r) (entries_more cs c) ∙ sym (append_assoc (entry_text d) (entries_text cs) (entry_text c))
 
-module _ (was : List ℕ) (cs : List Contact) (c : Contact) (used n : ℕ) (S : Says (take used was) cs) (u : used ≤ length was) (e : append_as used (length cs) (largest cs) c was ≡ Bytes n) where
+module _ (was : List ℕ) (cs : List Contact) (c : Contact) (used n : ℕ) (S : Says (take used was) cs) (u : used ≤ length was) (e : append_as used (length cs) (largest cs) c was ≡ Ok n) where
   T : Taken used (length cs) (largest cs) n c was
   T = taken used (length cs) (largest cs) c was n e
 

@@ -1,4 +1,5 @@
 -- The heading of a list that is to grow. Assumes nothing.
+use Rattle.std.specs.Prelude.{⊤, Result, Ok, Err}
 use mathlib.Core.Path.{◌≡◌, refl, sym, ap, ◌∙◌}
 use mathlib.Core.Bool.{Bool, true, false}
 use mathlib.Core.List.{List, [], ◌∷◌}
@@ -12,8 +13,6 @@ use Rattle.text.specs.Pick.{both}
 use Rattle.text.proofs.BoolLaws.{cases, both_left, both_right}
 use Rattle.refusals.specs.declared.Refusal.{Refusal}
 use Rattle.refusals.specs.declared.Refusal.TheVariants.{OtherVersion, MalformedList}
-use Rattle.refusals.specs.declared.Verdict.{Verdict}
-use Rattle.refusals.specs.declared.Verdict.TheVariants.{Accepted, Refused}
 use Rattle.contacts.specs.Lists.{count_of}
 use Rattle.listwriter.specs.Append.{heading_of}
 use Rattle.listwriter.specs.Headings.{Headed}
@@ -34,12 +33,12 @@ front_short (x ∷ s) (suc n) = omega (arith, front_short s n)
 
 -- ---- the tests
 module _ (s : List ℕ) (count : ℕ) where
-  pub heading_none : length s ≡ 0 → Refused MalformedList ≡ heading_of s count
+  pub heading_none : length s ≡ 0 → Err MalformedList ≡ heading_of s count
   unfolding heading_of
   heading_none e = rw (eq-eqb (length s) 0 e) refl
 
   module _ (b : length s ≡ 0 → ⊥) where
-    pub heading_other : (get_or s 0 0 ≡ 1 → ⊥) → Refused OtherVersion ≡ heading_of s count
+    pub heading_other : (get_or s 0 0 ≡ 1 → ⊥) → Err OtherVersion ≡ heading_of s count
     unfolding heading_of
     heading_other d = rw (ne_eqb (length s) 0 b, ne_eqb (get_or s 0 0) 1 d) refl
 
@@ -47,22 +46,22 @@ module _ (s : List ℕ) (count : ℕ) where
       tests : g ≡ both (both (leb 5 (length s)) (eqb (count_of s) count)) (ltb count 4294967295)
       tests = eg ∙ rw (et, en) refl
 
-      pub heading_bad : g ≡ false → Refused MalformedList ≡ heading_of s count
+      pub heading_bad : g ≡ false → Err MalformedList ≡ heading_of s count
       unfolding heading_of
       heading_bad h = rw (ne_eqb (length s) 0 b, eq-eqb (get_or s 0 0) 1 v, sym tests ∙ h) refl
 
-      pub heading_good : g ≡ true → Accepted ≡ heading_of s count
+      pub heading_good : g ≡ true → Ok tt ≡ heading_of s count
       unfolding heading_of
       heading_good h = rw (ne_eqb (length s) 0 b, eq-eqb (get_or s 0 0) 1 v, sym tests ∙ h) refl
 
-pub heading_front : (was s : List ℕ) (used count : ℕ) (v : Verdict) → s ≡ take used was → v ≡ heading_of s count → v ≡ heading_of (take used was) count
+pub heading_front : (was s : List ℕ) (used count : ℕ) (v : Result ⊤ Refusal) → s ≡ take used was → v ≡ heading_of s count → v ≡ heading_of (take used was) count
 heading_front was s used count v es ev = rw es at ev
 
 -- ---- what an accepted one tells
-pub unaccepted : {P : Type 0} (why : Refusal) → Refused why ≡ Accepted → P
+pub unaccepted : {P : Type 0} (why : Refusal) → ◌≡◌ {A = Result ⊤ Refusal} (Err why) (Ok tt) → P
 unaccepted why e = absurd (let z : ◌≡◌ {A = ℕ} 0 1 = cc in omega arith)
 
-pub headed : (s : List ℕ) (count : ℕ) → heading_of s count ≡ Accepted → Headed s count
+pub headed : (s : List ℕ) (count : ℕ) → heading_of s count ≡ Ok tt → Headed s count
 unfolding heading_of
 headed s count e =
     cases (eqb (length s) 0)

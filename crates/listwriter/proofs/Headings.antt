@@ -1,4 +1,5 @@
 -- The theorems of `specs/Headings.antt`. Assumes nothing.
+use Rattle.std.specs.Prelude.{⊤, Result, Ok, Err}
 use mathlib.Core.Path.{◌≡◌, refl, sym, ap, ◌∙◌}
 use mathlib.Core.Bool.{true, false}
 use mathlib.Core.List.{List}
@@ -11,10 +12,8 @@ use Rattle.text.specs.Pick.{both}
 use Rattle.text.proofs.BoolLaws.{cases, both_right}
 use Rattle.refusals.specs.declared.Refusal.{Refusal}
 use Rattle.refusals.specs.declared.Refusal.TheVariants.{OtherVersion, MalformedList}
-use Rattle.refusals.specs.declared.Verdict.TheVariants.{Accepted, Refused as Unheaded}
 use Rattle.contacts.specs.Contacts.{Contact, contact, sound_head, sound_texts, sound, entry_text, largest}
 use Rattle.contacts.specs.Lists.{count_of, listed_as}
-use Rattle.contacts.specs.declared.Listed.TheVariants.{Refused}
 use Rattle.contacts.proofs.ListLaws.{accepted, list_none, list_other, list_short}
 use Rattle.listwriter.specs.Append.{long_texts, is_long, heading_of, placed_as, entered_as, headed_by, append_as}
 use Rattle.listwriter.specs.Headings.{OnlyHeaded, ListsHeaded, VersionsListed, RefusedListed, SaidAppended}
@@ -35,25 +34,25 @@ lists_headed used was n top e h =
 
 -- a heading that is refused, by the test that refuses it
 module _ (s : List ℕ) (short : length s ≤ 16777216) where
-  refused_by : (count : ℕ) (why : Refusal) → heading_of s count ≡ Unheaded why → (both (both (leb 5 (length s)) (eqb (count_of s) count)) (ltb count 4294967295) ≡ false → MalformedList ≡ why → length s < 5) → listed_as s ≡ Refused why
+  refused_by : (count : ℕ) (why : Refusal) → heading_of s count ≡ Err why → (both (both (leb 5 (length s)) (eqb (count_of s) count)) (ltb count 4294967295) ≡ false → MalformedList ≡ why → length s < 5) → listed_as s ≡ Err why
   unfolding heading_of
   refused_by count why e cut =
       cases (eqb (length s) 0)
       (λ u. let z : MalformedList ≡ why = told MalformedList (rw u at e) in
-      sym (list_none s short (eqb-true (length s) 0 u)) ∙ ap Refused z)
+      sym (list_none s short (eqb-true (length s) 0 u)) ∙ ap Err z)
       (λ u. let nz = eqb-false (length s) 0 u in
       cases (eqb (get_or s 0 0) 1)
       (λ v. cases (both (both (leb 5 (length s)) (eqb (count_of s) count)) (ltb count 4294967295))
       (λ w. unrefused (rw (u, v, w) at e))
       (λ w. let z : MalformedList ≡ why = told MalformedList (rw (u, v, w) at e) in
-      sym (list_short s short nz (eqb-true (get_or s 0 0) 1 v) (cut w z)) ∙ ap Refused z))
+      sym (list_short s short nz (eqb-true (get_or s 0 0) 1 v) (cut w z)) ∙ ap Err z))
       (λ v. let z : OtherVersion ≡ why = told OtherVersion (rw (u, v) at e) in
-      sym (list_other s short nz (eqb-false (get_or s 0 0) 1 v)) ∙ ap Refused z))
+      sym (list_other s short nz (eqb-false (get_or s 0 0) 1 v)) ∙ ap Err z))
     where
-      told : (r : Refusal) → Unheaded r ≡ Unheaded why → r ≡ why
+      told : (r : Refusal) → ◌≡◌ {A = Result ⊤ Refusal} (Err r) (Err why) → r ≡ why
       told r q = cc
 
-      unrefused : {P : Type 0} → Accepted ≡ Unheaded why → P
+      unrefused : {P : Type 0} → ◌≡◌ {A = Result ⊤ Refusal} (Ok tt) (Err why) → P
       unrefused q = absurd (let z : ◌≡◌ {A = ℕ} 0 1 = cc in omega arith)
 
 pub versions_listed : VersionsListed

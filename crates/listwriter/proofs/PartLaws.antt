@@ -1,34 +1,53 @@
 -- The parts of an entry put one behind the other. Assumes nothing.
-use mathlib.Core.Path.{◌≡◌, refl, sym, ◌∙◌}
+use mathlib.Core.Path.{◌≡◌, refl, sym, ap, ◌∙◌}
 use mathlib.Core.List.{List, [], ◌∷◌, ◌++◌, append_assoc}
-use Prim.Native.Nat.{ℕ, zero, suc, ◌+◌, ◌-◌, ◌/◌, ◌%◌}
+use Prim.Native.Nat.{ℕ, zero, suc, ◌+◌, ◌-◌, ◌/◌, ◌%◌, ◌≤◌, ◌<◌}
 use native.Mathlib.Omega.{arith}
-use lib.ListN.{length, length-append}
+use lib.ListN.{length, take, drop, length-append}
+use lib.Seq.{take_all}
+use Rattle.std.specs.Int.{byte_at, bytes_high_first}
 use Rattle.output.specs.Put.{Put, Room}
-use Rattle.output.proofs.PutLaws.{put_none, put_then, room_first, room_next, room_second, room_third, put_three}
+use Rattle.output.proofs.PutLaws.{put_then, room_first, room_next, room_second, room_third, put_three}
 use Rattle.contacts.specs.Contacts.{contact, bytes_of, counted, body_text, entry_text}
 use Rattle.listwriter.specs.Parts.{pair_text, texts_text, head_text, body_size}
 use Rattle.listwriter.proofs.ReadBack.{bytes_length, body_length}
 
--- ---- a number
-more : (k n : ℕ) → (k ≡ 0 → ⊥) → bytes_of k n ≡ bytes_of (k - 1) (n / 256) ++ (n % 256 ∷ [])
+-- ---- a number: the lowest k of its eight bytes
+byte_step : (k n : ℕ) → k < 7 → byte_at (suc k) n ≡ byte_at k (n / 256)
+byte_step zero n h = refl
+byte_step (suc zero) n h = omega arith
+byte_step (suc (suc zero)) n h = omega arith
+byte_step (suc (suc (suc zero))) n h = omega arith
+byte_step (suc (suc (suc (suc zero)))) n h = omega arith
+byte_step (suc (suc (suc (suc (suc zero))))) n h = omega arith
+byte_step (suc (suc (suc (suc (suc (suc zero)))))) n h = omega arith
+byte_step (suc (suc (suc (suc (suc (suc (suc k))))))) n h = absurd (omega arith)
+
+high_more : (k n : ℕ) → k < 8 → bytes_high_first (suc k) n ≡ bytes_high_first k (n / 256) ++ (n % 256 ∷ [])
+high_more zero n h = refl
+high_more (suc k) n h = rw (high_more k n (omega arith), byte_step k n (omega arith)) refl
+
+high_is : (k n : ℕ) → k ≤ 8 → bytes_high_first k n ≡ bytes_of k n
 unfolding bytes_of
-more zero n h = absurd (h refl)
-more (suc k) n h = let z : suc k - 1 ≡ k = omega arith in rw z refl
+high_is zero n h = refl
+high_is (suc k) n h = high_more k n (omega arith) ∙ ap (λ (r : List ℕ). r ++ (n % 256 ∷ [])) (high_is k (n / 256) (omega arith))
 
-pub number_none : (was : List ℕ) (at k n : ℕ) → k ≡ 0 → Put at was was at (bytes_of k n)
-unfolding bytes_of
-number_none was at k n e = rw e (put_none was at)
+low_bytes : (d m k n : ℕ) → m ≡ k + d → drop d (bytes_high_first m n) ≡ bytes_high_first k n
+low_bytes zero m k n e = let z : m ≡ k = omega arith in rw z refl
+low_bytes (suc d) zero k n e = absurd (omega arith)
+low_bytes (suc d) (suc m) k n e = low_bytes d m k n (omega arith)
 
-module _ (was : List ℕ) (at k n : ℕ) (h : k ≡ 0 → ⊥) where
-  pub number_first : Room was at (bytes_of k n) → Room was at (bytes_of (k - 1) (n / 256))
-  number_first r = room_first was at (bytes_of (k - 1) (n / 256)) (n % 256 ∷ []) (rw (more k n h) at r)
+number_bytes : (k n : ℕ) → k ≤ 8 → take (8 - (8 - k)) (drop (8 - k) (bytes_high_first 8 n)) ≡ bytes_of k n
+number_bytes k n h =
+    let e : drop (8 - k) (bytes_high_first 8 n) ≡ bytes_of k n = low_bytes (8 - k) 8 k n (omega arith) ∙ high_is k n h in
+    rw e (take_all (8 - (8 - k)) (bytes_of k n) (omega (arith, bytes_length k n)))
 
-  pub number_last : Room was at (bytes_of k n) → (q : ℕ) (mid : List ℕ) → Put q was mid at (bytes_of (k - 1) (n / 256)) → Room mid q (n % 256 ∷ [])
-  number_last r q mid p = room_next was at (bytes_of (k - 1) (n / 256)) (n % 256 ∷ []) (rw (more k n h) at r) q mid p
+module _ (was : List ℕ) (at k n : ℕ) (h : k ≤ 8) (bs : List ℕ) (e : bs ≡ bytes_high_first 8 n) where
+  pub number_room : Room was at (bytes_of k n) → Room was at (take (8 - (8 - k)) (drop (8 - k) bs))
+  number_room r = rw (e, number_bytes k n h) r
 
-  pub number_put : (q r : ℕ) (mid now : List ℕ) → Put q was mid at (bytes_of (k - 1) (n / 256)) → Put r mid now q (n % 256 ∷ []) → Put r was now at (bytes_of k n)
-  number_put q r mid now p s = rw (more k n h) (put_then r q was mid now at (bytes_of (k - 1) (n / 256)) (n % 256 ∷ []) p s)
+  pub number_put : (q : ℕ) (now : List ℕ) → Put q was now at (take (8 - (8 - k)) (drop (8 - k) bs)) → Put q was now at (bytes_of k n)
+  number_put q now p = rw (e, number_bytes k n h) at p
 
 -- ---- the texts
 module _ (call date time band mode : List ℕ) where

@@ -1,4 +1,5 @@
 -- The list that contacts make is a list, and says those contacts. Assumes nothing.
+use Rattle.std.specs.Prelude.{Ok}
 use mathlib.Core.Path.{◌≡◌, refl, sym, ap, ◌∙◌}
 use mathlib.Core.Bool.{true}
 use mathlib.Core.List.{List, [], ◌∷◌, ◌++◌, append_assoc, append-nil}
@@ -13,7 +14,6 @@ use Rattle.text.specs.Pick.{both, either, within}
 use Rattle.text.proofs.BoolLaws.{cases, both_left, both_right}
 use Rattle.contacts.specs.Contacts.{Contact, contact, id_of, plain, is_date, is_time, sound_head, sound_texts, sound, sound_from, bytes_of, counted, body_text, entry_text, entries_text, list_text, larger, largest}
 use Rattle.contacts.specs.Lists.{Says, number_at, text_at, after, call_at, date_at, time_at, band_at, mode_at, end_at, id_at, services_at, contact_at, fits, good_at, entries_from, count_of, listed_as, contacts_from, contacts_of}
-use Rattle.contacts.specs.declared.Listed.TheVariants.{Marked}
 
 -- ---- numbers
 pub bytes_length : (k n : ℕ) → length (bytes_of k n) ≡ k
@@ -238,7 +238,7 @@ last_of last (c ∷ cs) = last_of (id_of c) cs
 
 module _ (s : List ℕ) (n : ℕ) where
   entries_back : (cs : List Contact) (pre : List ℕ) (at last : ℕ) → sound_from last cs ≡ true → s ≡ pre ++ entries_text cs → length pre ≡ at
-      → (entries_from s n (length cs) at last ≡ Marked n (last_of last cs)) × (contacts_from s (length cs) at ≡ cs)
+      → (entries_from s n (length cs) at last ≡ Ok (record { contacts = n; largest = last_of last cs })) × (contacts_from s (length cs) at ≡ cs)
   unfolding entries_from contacts_from entries_text sound_from
   entries_back [] pre at last g e l =
       let z : at ≡ length s = sym l ∙ ap length (sym (append-nil pre) ∙ sym e) in (rw (eq-eqb at (length s) z) refl, refl)
@@ -301,17 +301,17 @@ module _ (s : List ℕ) (cs : List Contact) (S : Says s cs) where
       number_back 4 (length cs) s (1 ∷ []) (entries_text cs) 1
       (holds_4 (length cs) (omega (arith, S.short, long, entries_long cs))) S.written refl
 
-  all_back : (entries_from s (length cs) (length cs) 5 0 ≡ Marked (length cs) (last_of 0 cs)) × (contacts_from s (length cs) 5 ≡ cs)
+  all_back : (entries_from s (length cs) (length cs) 5 0 ≡ Ok (record { contacts = length cs; largest = last_of 0 cs })) × (contacts_from s (length cs) 5 ≡ cs)
   all_back = entries_back s (length cs) cs front 5 0 S.all_sound parts len_front
 
   -- what contacts write is a list, with their mark
-  pub written_listed : listed_as s ≡ Marked (length cs) (largest cs)
+  pub written_listed : listed_as s ≡ Ok (record { contacts = length cs; largest = largest cs })
   unfolding listed_as
   written_listed =
       let v : get_or s 0 0 ≡ 1 = ap (λ (r : List ℕ). get_or r 0 0) parts in
       let nz : length s ≡ 0 → ⊥ = λ z. omega (arith, long) in
       rw (le-ltb 16777216 (length s) S.short, ne_eqb (length s) 0 nz, eq-eqb (get_or s 0 0) 1 v, le-ltb (length s) 5 (omega (arith, long)), count_back) all_back.0
-      ∙ ap (Marked (length cs)) (largest_is cs S.all_sound)
+      ∙ ap (λ z. Ok (record { contacts = length cs; largest = z })) (largest_is cs S.all_sound)
 
   -- and says them
   pub written_said : contacts_of s ≡ cs

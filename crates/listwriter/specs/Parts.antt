@@ -1,8 +1,8 @@
 -- The parts of an entry in the order in which they are put.
-use Rattle.std.specs.Prelude.{◌≡◌, List, [], ◌∷◌, ◌++◌, ℕ, ◌+◌, ◌<◌, length}
+use Rattle.refusals.specs.declared.Refusal.{Refusal}
+use Rattle.std.specs.Prelude.{◌≡◌, List, [], ◌∷◌, ◌++◌, ℕ, ◌+◌, ◌<◌, length, Result}
 use Rattle.contacts.specs.Contacts.{Contact, bytes_of, counted, entry_text}
 use Rattle.listwriter.specs.Append.{placed_as, entered_as, append_by}
-use Rattle.listwriter.specs.declared.Appended.{Appended}
 
 abbrev pub pair_text : List ℕ → List ℕ → List ℕ
 pair_text a b = counted a ++ counted b
@@ -26,9 +26,9 @@ pub record Counted (call date time band mode : List ℕ) : Type 0 where
   pub the_mode : length mode < 256
 
 -- the entry stands behind `used` bytes, or there is no room
-unfoldable pub Behind : List ℕ → List ℕ → ℕ → ℕ → Contact → Appended → Type 0
+unfoldable pub Behind : List ℕ → List ℕ → ℕ → ℕ → Contact → Result ℕ Refusal → Type 0
 Behind was now used count c r = (r ≡ placed_as (used + length (entry_text c)) (length was)) × (now ≡ append_by r used count c was)
 
 -- the same of a contact that is tested first
-unfoldable pub Entered : List ℕ → List ℕ → ℕ → ℕ → ℕ → Contact → Appended → Type 0
+unfoldable pub Entered : List ℕ → List ℕ → ℕ → ℕ → ℕ → Contact → Result ℕ Refusal → Type 0
 Entered was now used count top c r = (r ≡ entered_as used top c (length was)) × (now ≡ append_by r used count c was)

@@ -8,28 +8,29 @@ ghost use Rattle.listwriter.specs.Append.{start_as, start_after, long_texts, hea
 ghost use Rattle.listwriter.specs.Parts.{pair_text, texts_text, head_text, body_size, Counted, Behind, Entered};
 
 use contacts::{ENTRIES, VERSION};
-use refusals::{LONGEST, Refusal, Verdict};
-
-// How many bytes the list now has.
-#[derive(Clone, Copy)]
-pub enum Appended {
-    Bytes(usize),
-    Refused(Refusal),
-}
+use refusals::{LONGEST, Refusal};
 
 // How many contacts a list can count.
 const MOST: usize = 4_294_967_295;
 
+// A contact that is to be written.
+#[derive(Clone, Copy)]
+struct Entry<'a> {
+    id: u64,
+    services: u8,
+    call: &'a [u8],
+    date: &'a [u8],
+    time: &'a [u8],
+    band: &'a [u8],
+    mode: &'a [u8],
+}
+
 // n in k bytes, the highest first.
 fn put_number(out: &mut [u8], at: usize, k: usize, n: u64) -> usize
-    requires { Room out.old at (bytes_of k n) }
+    requires { Room out.old at (bytes_of k n) × (k ≤ 8) }
     ensures { Put result out.old out.new at (bytes_of k n) }
 {
-    if k == 0 {
-        return at;
-    }
-    let e = put_number(out, at, k - 1, n / 256);
-    output::put_byte(out, e, (n % 256) as u8)
+    output::put_bytes(out, at, &n.to_be_bytes()[8 - k..])
 }
 
 fn put_counted(out: &mut [u8], at: usize, t: &[u8]) -> usize
@@ -48,21 +49,13 @@ fn put_pair(out: &mut [u8], at: usize, a: &[u8], b: &[u8]) -> usize
     put_counted(out, p, b)
 }
 
-fn put_texts(
-    out: &mut [u8],
-    at: usize,
-    call: &[u8],
-    date: &[u8],
-    time: &[u8],
-    band: &[u8],
-    mode: &[u8],
-) -> usize
-    requires { Room out.old at (texts_text call.now date.now time.now band.now mode.now) × Counted call.now date.now time.now band.now mode.now }
-    ensures { Put result out.old out.new at (texts_text call.now date.now time.now band.now mode.now) }
+fn put_texts(out: &mut [u8], at: usize, e: Entry) -> usize
+    requires { Room out.old at (texts_text e.call.now e.date.now e.time.now e.band.now e.mode.now) × Counted e.call.now e.date.now e.time.now e.band.now e.mode.now }
+    ensures { Put result out.old out.new at (texts_text e.entry.call.now e.entry.date.now e.entry.time.now e.entry.band.now e.entry.mode.now) }
 {
-    let a = put_counted(out, at, call);
-    let b = put_pair(out, a, date, time);
-    put_pair(out, b, band, mode)
+    let a = put_counted(out, at, e.call);
+    let b = put_pair(out, a, e.date, e.time);
+    put_pair(out, b, e.band, e.mode)
 }
 
 fn put_head(out: &mut [u8], at: usize, size: u64, id: u64, services: u8) -> usize
@@ -75,59 +68,38 @@ fn put_head(out: &mut [u8], at: usize, size: u64, id: u64, services: u8) -> usiz
 }
 
 // How many bytes an entry has behind its size.
-fn body_size(call: &[u8], date: &[u8], time: &[u8], band: &[u8], mode: &[u8]) -> usize
-    requires { Counted call.now date.now time.now band.now mode.now }
-    ensures value { result ≡ body_size call.now date.now time.now band.now mode.now }
+fn body_size(e: Entry) -> usize
+    requires { Counted e.call.now e.date.now e.time.now e.band.now e.mode.now }
+    ensures value { result ≡ body_size e.entry.call.now e.entry.date.now e.entry.time.now e.entry.band.now e.entry.mode.now }
     ensures upper_bound { result ≤ 1300 }
 {
-    14 + call.len() + date.len() + time.len() + band.len() + mode.len()
+    14 + e.call.len() + e.date.len() + e.time.len() + e.band.len() + e.mode.len()
 }
 
-fn put_entry(
-    out: &mut [u8],
-    at: usize,
-    id: u64,
-    services: u8,
-    call: &[u8],
-    date: &[u8],
-    time: &[u8],
-    band: &[u8],
-    mode: &[u8],
-) -> usize
-    requires { Room out.old at (entry_text (contact id services call.now date.now time.now band.now mode.now)) × Counted call.now date.now time.now band.now mode.now }
-    ensures { Put result out.old out.new at (entry_text (contact id services call.now date.now time.now band.now mode.now)) }
+fn put_entry(out: &mut [u8], at: usize, e: Entry) -> usize
+    requires { Room out.old at (entry_text (contact e.id e.services e.call.now e.date.now e.time.now e.band.now e.mode.now)) × Counted e.call.now e.date.now e.time.now e.band.now e.mode.now }
+    ensures { Put result out.old out.new at (entry_text (contact e.entry.id e.entry.services e.entry.call.now e.entry.date.now e.entry.time.now e.entry.band.now e.entry.mode.now)) }
 {
-    let size = body_size(call, date, time, band, mode) as u64;
-    let a = put_head(out, at, size, id, services);
-    put_texts(out, a, call, date, time, band, mode)
+    let size = body_size(e) as u64;
+    let a = put_head(out, at, size, e.id, e.services);
+    put_texts(out, a, e)
 }
 
 // Behind `used` bytes, where there is room.
-fn put_behind(
-    out: &mut [u8],
-    used: usize,
-    contacts: usize,
-    id: u64,
-    services: u8,
-    call: &[u8],
-    date: &[u8],
-    time: &[u8],
-    band: &[u8],
-    mode: &[u8],
-) -> Appended
-    requires { (5 ≤ used) × (used ≤ 16777216) × (contacts < 4294967295) × Counted call.now date.now time.now band.now mode.now }
-    ensures { Behind out.old out.new used contacts (contact id services call.now date.now time.now band.now mode.now) result }
+fn put_behind(out: &mut [u8], used: usize, contacts: usize, e: Entry) -> Result<usize, Refusal>
+    requires { (5 ≤ used) × (used ≤ 16777216) × (contacts < 4294967295) × Counted e.call.now e.date.now e.time.now e.band.now e.mode.now }
+    ensures { Behind out.old out.new used contacts (contact e.entry.id e.entry.services e.entry.call.now e.entry.date.now e.entry.time.now e.entry.band.now e.entry.mode.now) result }
 {
-    let end = used + 2 + body_size(call, date, time, band, mode);
+    let end = used + 2 + body_size(e);
     if LONGEST < end {
-        return Appended::Refused(Refusal::TooLong);
+        return Err(Refusal::TooLong);
     }
     if out.len() < end {
-        return Appended::Refused(Refusal::ShortOutput);
+        return Err(Refusal::ShortOutput);
     }
-    put_entry(out, used, id, services, call, date, time, band, mode);
+    put_entry(out, used, e);
     put_number(out, 1, 4, (contacts + 1) as u64);
-    Appended::Bytes(end)
+    Ok(end)
 }
 
 // A contact behind `used` bytes, if it is sound and its id rises.
@@ -136,53 +108,49 @@ fn enter(
     used: usize,
     contacts: usize,
     largest: u64,
-    id: u64,
-    services: u8,
-    call: &[u8],
-    date: &[u8],
-    time: &[u8],
-    band: &[u8],
-    mode: &[u8],
-) -> Appended
+    e: Entry,
+) -> Result<usize, Refusal>
     requires { (5 ≤ used) × (used ≤ 16777216) × (contacts < 4294967295) }
-    ensures { Entered out.old out.new used contacts largest (contact id services call.now date.now time.now band.now mode.now) result }
+    ensures { Entered out.old out.new used contacts largest (contact e.entry.id e.entry.services e.entry.call.now e.entry.date.now e.entry.time.now e.entry.band.now e.entry.mode.now) result }
 {
-    let head = contacts::is_sound_head(id, services);
-    let texts = contacts::is_sound_texts(call, date, time, band, mode);
+    let head = contacts::is_sound_head(e.id, e.services);
+    let texts = contacts::is_sound_texts(e.call, e.date, e.time, e.band, e.mode);
     if !text::all(head, texts) {
-        return Appended::Refused(Refusal::MalformedList);
+        return Err(Refusal::MalformedList);
     }
-    if id <= largest {
-        return Appended::Refused(Refusal::IdsNotRising);
+    if e.id <= largest {
+        return Err(Refusal::IdsNotRising);
     }
-    put_behind(
-        out, used, contacts, id, services, call, date, time, band, mode,
+    put_behind(out, used, contacts, e)
+}
+
+// Kept: `text::any`, since a chain of five with `||` has its proof by each branch.
+fn are_long(e: Entry) -> bool
+    ensures { result ≡ long_texts e.entry.call.now e.entry.date.now e.entry.time.now e.entry.band.now e.entry.mode.now }
+{
+    let last = text::any(LONGEST < e.band.len(), LONGEST < e.mode.len());
+    let rest = text::any(LONGEST < e.time.len(), last);
+    text::any(
+        LONGEST < e.call.len(),
+        text::any(LONGEST < e.date.len(), rest),
     )
 }
 
-fn are_long(call: &[u8], date: &[u8], time: &[u8], band: &[u8], mode: &[u8]) -> bool
-    ensures { result ≡ long_texts call.now date.now time.now band.now mode.now }
-{
-    let last = text::any(LONGEST < band.len(), LONGEST < mode.len());
-    let rest = text::any(LONGEST < time.len(), last);
-    text::any(LONGEST < call.len(), text::any(LONGEST < date.len(), rest))
-}
-
 // Whether a contact may follow, by the heading alone: in the same time whatever the list's length.
-fn heading_of(list: &[u8], contacts: usize) -> Verdict
+fn heading_of(list: &[u8], contacts: usize) -> Result<(), Refusal>
     ensures { result ≡ heading_of list.now contacts }
 {
-    if list.len() == 0 {
-        return Verdict::Refused(Refusal::MalformedList);
+    if list.is_empty() {
+        return Err(Refusal::MalformedList);
     }
     if list[0] != VERSION {
-        return Verdict::Refused(Refusal::OtherVersion);
+        return Err(Refusal::OtherVersion);
     }
     let told = text::all(ENTRIES <= list.len(), contacts::count_of(list) == contacts);
     if !text::all(told, contacts < MOST) {
-        return Verdict::Refused(Refusal::MalformedList);
+        return Err(Refusal::MalformedList);
     }
-    Verdict::Accepted
+    Ok(())
 }
 
 // The first `used` bytes, or all where there are fewer.
@@ -195,7 +163,7 @@ fn front(out: &[u8], used: usize) -> &[u8]
     &out[..used]
 }
 
-fn heading_in(out: &[u8], used: usize, contacts: usize) -> Verdict
+fn heading_in(out: &[u8], used: usize, contacts: usize) -> Result<(), Refusal>
     ensures { result ≡ heading_of (take used out.now) contacts }
 {
     heading_of(front(out, used), contacts)
@@ -214,30 +182,33 @@ pub fn append(
     time: &[u8],
     band: &[u8],
     mode: &[u8],
-) -> Appended
+) -> Result<usize, Refusal>
     ensures value { result ≡ append_as used contacts largest (contact id services call.now date.now time.now band.now mode.now) out.old }
     ensures out_after { out.new ≡ append_after used contacts largest (contact id services call.now date.now time.now band.now mode.now) out.old }
 {
-    let long = are_long(call, date, time, band, mode);
-    if text::any(LONGEST < used, long) {
-        return Appended::Refused(Refusal::TooLong);
+    let e = Entry {
+        id,
+        services,
+        call,
+        date,
+        time,
+        band,
+        mode,
+    };
+    if text::any(LONGEST < used, are_long(e)) {
+        return Err(Refusal::TooLong);
     }
-    let heading = heading_in(out, used, contacts);
-    match heading {
-        Verdict::Refused(why) => Appended::Refused(why),
-        Verdict::Accepted => enter(
-            out, used, contacts, largest, id, services, call, date, time, band, mode,
-        ),
-    }
+    heading_in(out, used, contacts)?;
+    enter(out, used, contacts, largest, e)
 }
 
 // A list with no contact yet.
-pub fn start(out: &mut [u8]) -> Appended
+pub fn start(out: &mut [u8]) -> Result<usize, Refusal>
     ensures value { result ≡ start_as (length out.old) }
     ensures out_after { out.new ≡ start_after out.old }
 {
     if out.len() < ENTRIES {
-        return Appended::Refused(Refusal::ShortOutput);
+        return Err(Refusal::ShortOutput);
     }
-    Appended::Bytes(output::put_bytes(out, 0, b"\x01\0\0\0\0"))
+    Ok(output::put_bytes(out, 0, b"\x01\0\0\0\0"))
 }

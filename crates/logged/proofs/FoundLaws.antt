@@ -1,4 +1,5 @@
 -- What a record finds in the list is what the plan's definition finds, a contact of the list or none. Assumes nothing.
+use Rattle.std.specs.Prelude.{Option, Ok}
 use mathlib.Core.Path.{◌≡◌, refl, ap, fun_ext}
 use mathlib.Core.Bool.{Bool}
 use mathlib.Core.List.{List, [], ◌∷◌, map}
@@ -11,10 +12,8 @@ use Rattle.text.specs.Pick.{both}
 use Rattle.text.proofs.BoolLaws.{cases}
 use Rattle.times.specs.Moments.{moment_of}
 use Rattle.times.specs.Window.{limit_of}
-use Rattle.times.specs.declared.Moment.{Moment}
 use Rattle.contacts.specs.Contacts.{Contact, call_of, date_of, time_of, band_of, mode_of}
 use Rattle.contacts.specs.Lists.{after, call_at, date_at, time_at, band_at, mode_at, end_at, id_at, entries_from, contacts_from, contacts_of, count_of, listed_as}
-use Rattle.contacts.specs.declared.Listed.TheVariants.{Marked}
 use Rattle.contacts.proofs.ListLaws.{good_inside, entries_next, accepted}
 use Rattle.index.specs.Rows.{Row}
 use Rattle.indexing.proofs.BuildLaws.{indexed_listed}
@@ -60,20 +59,20 @@ end_more s at =
     let d = after_more s (after s (after s (after s (at + 11)))) in
     let e = after_more s (after s (after s (after s (after s (at + 11))))) in omega arith
 
-entries_few : (s : List ℕ) (n m top k at last : ℕ) → at ≤ length s → entries_from s n k at last ≡ Marked m top → at + k ≤ length s
+entries_few : (s : List ℕ) (n m top k at last : ℕ) → at ≤ length s → entries_from s n k at last ≡ Ok (record { contacts = m; largest = top }) → at + k ≤ length s
 entries_few s n m top zero at last h e = omega arith
 entries_few s n m top (suc k) at last h e =
     let N = entries_next s n m top k at last e in
     omega (arith, end_more s at, entries_few s n m top k (end_at s at) (id_at s at) (good_inside s at N.good) N.rest)
 
 -- ---- the place of a contact's entry is in the list
-place_inside : (s : List ℕ) (n m top k at last i : ℕ) → at ≤ length s → entries_from s n k at last ≡ Marked m top → i < k → place_from s i at ≤ length s
+place_inside : (s : List ℕ) (n m top k at last i : ℕ) → at ≤ length s → entries_from s n k at last ≡ Ok (record { contacts = m; largest = top }) → i < k → place_from s i at ≤ length s
 place_inside s n m top k at last zero h e l = h
 place_inside s n m top zero at last (suc i) h e l = absurd (omega arith)
 place_inside s n m top (suc k) at last (suc i) h e l =
     let N = entries_next s n m top k at last e in place_inside s n m top k (end_at s at) (id_at s at) i (good_inside s at N.good) N.rest (omega arith)
 
-pub place_few : (s : List ℕ) (n top : ℕ) → listed_as s ≡ Marked n top → (i : ℕ) → i ≤ n → place_of s i ≤ 16777216
+pub place_few : (s : List ℕ) (n top : ℕ) → listed_as s ≡ Ok (record { contacts = n; largest = top }) → (i : ℕ) → i ≤ n → place_of s i ≤ 16777216
 unfolding place_of
 place_few s n top e zero h = omega arith
 place_few s n top e (suc i) h =
@@ -85,10 +84,10 @@ contacts_few s n rows q =
     let A = accepted s n q.0 (indexed_listed s (length rows) n q.0 q.1) in
     omega (arith, A.short, entries_few s n n q.0 n 5 0 A.whole A.entries)
 
-pub match_within : (s : List ℕ) (n : ℕ) (rows : List Row) (call mode band : List ℕ) (moment : Moment) (limit : ℕ) → Indexed s n rows → first_match call mode band moment limit (contacts_of s) ≤ n
+pub match_within : (s : List ℕ) (n : ℕ) (rows : List Row) (call mode band : List ℕ) (moment : Option ℕ) (limit : ℕ) → Indexed s n rows → first_match call mode band moment limit (contacts_of s) ≤ n
 unfolding first_match contacts_of
 match_within s n rows call mode band moment limit I =
     omega (arith, first_within (matches call mode band moment limit) 0 (contacts_from s (count_of s) 5), contacts_length s (count_of s) 5, (ready s n rows I).count)
 
-pub match_few : (s : List ℕ) (n : ℕ) (rows : List Row) (call mode band : List ℕ) (moment : Moment) (limit : ℕ) → Indexed s n rows → first_match call mode band moment limit (contacts_of s) < 4294967296
+pub match_few : (s : List ℕ) (n : ℕ) (rows : List Row) (call mode band : List ℕ) (moment : Option ℕ) (limit : ℕ) → Indexed s n rows → first_match call mode band moment limit (contacts_of s) < 4294967296
 match_few s n rows call mode band moment limit I = omega (arith, match_within s n rows call mode band moment limit I, contacts_few s n rows I)

@@ -5,11 +5,11 @@ use Prim.Native.Nat.{ℕ, zero, suc, ◌+◌, ◌≤◌, ◌<◌}
 use native.Mathlib.Nat.{zero-add, le_of_suc-le-suc, not-suc-le-zero}
 use native.Mathlib.Omega.{arith}
 use lib.ListN.{length, get_or, take, drop, set, length-map, get_or-append}
-use lib.Seq.{sets, sets-eq, length-sets, length-take-le, drop_at}
+use lib.Seq.{sets, sets-eq, length-sets, length-take-le, take_all, drop_at}
 use lib.IntN.{ℤ}
 use Rattle.times.specs.Window.{limit_of}
 use Rattle.chain.specs.Chain.{col}
-use Rattle.chain.proofs.Fronts.{Each, each_start, each_on, each_end}
+use Rattle.chain.proofs.Fronts.{Each, each_start, each_on, each_end, sets_all}
 use Rattle.contacts.specs.Lists.{contacts_of, count_of}
 use Rattle.index.specs.Rows as index
 use Rattle.indexing.proofs.BuildLaws.{indexed_listed}
@@ -63,9 +63,18 @@ module _ (text list : List ℕ) (limit n : ℕ) (was : List Row) where
   look_on rows k x w h l r e ew eh ex q =
       each_on (logged_row text list limit) n was [] rows k x l (omega arith) (logged_is text list limit (get_or rows k []) x w h ew eh ex) q
 
-  pub look_end : (rows : List Row) (k : ℕ) → n ≤ k → Looking text list limit n was rows k → rows ≡ sets was 0 (logged_rows text list limit was n)
+  -- the first n rows apart, and those behind them as they were
+  pub look_end : n ≤ length was → (items : List Row) (k : ℕ) → length (take n was) ≤ k → Looking text list limit n (take n was) items k → items ++ drop n was ≡ sets was 0 (logged_rows text list limit was n)
   unfolding Looking
-  look_end rows k l q = each_end (logged_row text list limit) n was rows k l q
+  look_end h items k l q =
+      let t : length (take n was) ≡ n = length-take-le n was h in
+      let m : length (logged_rows text list limit was n) ≡ n = length-map (take n was) (logged_row text list limit) ∙ t in
+      let tt : take n (take n was) ≡ take n was = take_all n (take n was) (omega (arith, t)) in
+      let e : items ≡ logged_rows text list limit was n =
+      each_end (logged_row text list limit) n (take n was) items k (omega arith) q
+      ∙ rw tt (sets_all (take n was) (logged_rows text list limit was n) (m ∙ sym t)) in
+      let z : 0 + length (logged_rows text list limit was n) ≡ n = omega arith in
+      rw e (sym (sets-eq (logged_rows text list limit was n) was 0 (omega arith) ∙ rw z refl))
 
 -- ---- all of them
 map_at : (f : Row → Row) (rows : List Row) (n j : ℕ) → j < n → n ≤ length rows → get_or (map f (take n rows)) j [] ≡ f (get_or rows j [])

@@ -14,9 +14,10 @@ use wanted::Wanted;
 fn wanted_in(row: [u32; 28]) -> Wanted
     ensures { result ≡ wanted_in row }
 {
-    let key = entries::key_in(row);
-    let moment = infile::moment_in(row);
-    Wanted { key, moment }
+    Wanted {
+        key: entries::key_in(row),
+        moment: infile::moment_in(row),
+    }
 }
 
 fn with_hit(r: [u32; 28], hit: Hit) -> [u32; 28]
@@ -43,12 +44,8 @@ pub fn find_each(
     requires { (n ≤ length rows.old) × Searchable list.now contacts (plain index.now) n }
     ensures { rows.new ≡ sets rows.old 0 (logged_rows text.now list.now limit rows.old n) }
 {
-    let mut k = 0;
-    while k < n {
-        let row = rows[k];
-        let wanted = wanted_in(row);
-        let hit = search::find(text, list, index, contacts, wanted, limit);
-        rows[k] = with_hit(row, hit);
-        k += 1;
+    for row in rows[..n].iter_mut() {
+        let hit = search::find(text, list, index, contacts, wanted_in(*row), limit);
+        *row = with_hit(*row, hit);
     }
 }

@@ -1,4 +1,6 @@
 -- A list looked up, contact by contact. Assumes nothing.
+use Rattle.std.specs.Prelude.{Result, Ok, Err}
+use Rattle.contacts.specs.declared.Mark.{Mark}
 use mathlib.Core.Path.{◌≡◌, refl, sym, ap, ◌∙◌}
 use mathlib.Core.List.{List, [], ◌∷◌, ◌++◌, append-nil, map}
 use Prim.Native.Nat.{ℕ, zero, suc, ◌+◌, ◌-◌, ◌≤◌, ◌<◌}
@@ -13,8 +15,6 @@ use Rattle.text.proofs.BoolLaws.{cases}
 use Rattle.refusals.specs.declared.Refusal.{Refusal}
 use Rattle.refusals.specs.declared.Refusal.TheVariants.{ShortTable}
 use Rattle.contacts.specs.Lists.{call_at, band_at, mode_at, end_at, id_at, contact_at, contacts_from, contacts_of, count_of, listed_as}
-use Rattle.contacts.specs.declared.Listed.{Listed}
-use Rattle.contacts.specs.declared.Listed.TheVariants.{Marked, Refused}
 use Rattle.contacts.proofs.ListLaws.{good_inside, entries_next, accepted, marked_refused}
 use Rattle.index.specs.Rows.{Row, rows_from, no_row}
 use Rattle.indexing.specs.Index.{indexed_by, indexed_as, index_by, index_after, count_in, Checked, Sound}
@@ -88,38 +88,33 @@ matches_length s limit other zero at = refl
 matches_length s limit other (suc k) at = ap suc (matches_length s limit other k (end_at other at))
 
 -- ---- what is asked
-module _ (other : List ℕ) (room : ℕ) (built r : Listed) where
-  pub asked_refused : (why : Refusal) → built ≡ Refused why → Refused why ≡ searched_by room built (listed_as other)
+module _ (other : List ℕ) (room : ℕ) (built : Result Mark Refusal) where
+  pub asked_refused : (why : Refusal) → built ≡ Err why → Err why ≡ searched_by room built (listed_as other)
   unfolding searched_by
   asked_refused why e = rw e refl
 
-  by_listed : (l : Listed) → indexed_by room l ≡ searched_by room (Marked 0 0) l
+  by_listed : (m : Mark) (l : Result Mark Refusal) → indexed_by room l ≡ searched_by room (Ok m) l
   unfolding indexed_by searched_by
-  by_listed (Refused why) = refl
-  by_listed (Marked k last) = refl
+  by_listed m (Err why) = refl
+  by_listed m (Ok k) = refl
 
-  marked_alike : (n top : ℕ) (l : Listed) → searched_by room (Marked 0 0) l ≡ searched_by room (Marked n top) l
-  unfolding searched_by
-  marked_alike n top (Refused why) = refl
-  marked_alike n top (Marked k last) = refl
-
-  pub asked_marked : (n top : ℕ) → built ≡ Marked n top → r ≡ indexed_as other room → r ≡ searched_by room built (listed_as other)
+  pub asked_marked : (m : Mark) → built ≡ Ok m → (r : Result Mark Refusal) → r ≡ indexed_as other room → r ≡ searched_by room built (listed_as other)
   unfolding indexed_as
-  asked_marked n top e er = er ∙ by_listed (listed_as other) ∙ marked_alike n top (listed_as other) ∙ ap (λ (b : Listed). searched_by room b (listed_as other)) (sym e)
+  asked_marked m e r er = er ∙ by_listed m (listed_as other) ∙ ap (λ (b : Result Mark Refusal). searched_by room b (listed_as other)) (sym e)
 
 -- ---- how many records are cleared
-pub gone_all : (l : Listed) (m : ℕ) (why : Refusal) → l ≡ Refused why → m ≡ gone_of l m
+pub gone_all : (l : Result Mark Refusal) (m : ℕ) (why : Refusal) → l ≡ Err why → m ≡ gone_of l m
 unfolding gone_of
 gone_all l m why e = rw e refl
 
-pub gone_none : (l : Listed) (m k last : ℕ) → l ≡ Marked k last → 0 ≡ gone_of l m
+pub gone_none : (l : Result Mark Refusal) (m : ℕ) (k : Mark) → l ≡ Ok k → 0 ≡ gone_of l m
 unfolding gone_of
-gone_none l m k last e = rw e refl
+gone_none l m k e = rw e refl
 
-pub gone_within : (l : Listed) (m n : ℕ) → n ≡ gone_of l m → n ≤ m
+pub gone_within : (l : Result Mark Refusal) (m n : ℕ) → n ≡ gone_of l m → n ≤ m
 unfolding gone_of
-gone_within (Marked k last) m n e = omega arith
-gone_within (Refused why) m n e = omega arith
+gone_within (Ok m') m n e = omega arith
+gone_within (Err why) m n e = omega arith
 
 -- as those of no contact
 cleared_is : (s : List ℕ) (n : ℕ) (rows rows' : List Row) → rows' ≡ sets rows 0 (rows_from s 0 5 ++ replicate (n - 0) no_row) → rows' ≡ sets rows 0 (replicate n no_row)
@@ -134,25 +129,26 @@ all_cleared rows m e =
     sets-eq w rows 0 (omega arith) ∙ ap (λ (q : List Row). w ++ q) d ∙ append-nil w
 
 -- ---- what may be looked up: nothing after a refusal
-listed_fits : (other : List ℕ) (room : ℕ) (l : Listed) (k last : ℕ) → searched_by room (Marked 0 0) l ≡ Marked k last → (l ≡ Marked k last) × (k ≤ room)
+listed_fits : (other : List ℕ) (room : ℕ) (l : Result Mark Refusal) (m : Mark) (k last : ℕ) → searched_by room (Ok m) l ≡ Ok (record { contacts = k; largest = last }) → (l ≡ Ok (record { contacts = k; largest = last })) × (k ≤ room)
 unfolding searched_by
-listed_fits other room (Refused why) k last e = marked_refused k last why e
-listed_fits other room (Marked j m) k last e =
-    cases (ltb room j)
+listed_fits other room (Err why) m k last e = marked_refused k last why e
+listed_fits other room (Ok j) m k last e =
+    cases (ltb room j.contacts)
     (λ u. marked_refused k last ShortTable (rw u at e))
-    (λ u. let z : Marked j m ≡ Marked k last = rw u at e in
-    let y : j ≡ k = cc in (z, omega (arith, ltb-false room j u)))
+    (λ u. let z : ◌≡◌ {A = Result Mark Refusal} (Ok j) (Ok (record { contacts = k; largest = last })) = rw u at e in
+    let y : ◌≡◌ {A = Mark} j (record { contacts = k; largest = last }) = cc in
+    (z, omega (arith, ltb-false room j.contacts u, ap (λ (x : Mark). x.contacts) y)))
 
 module _ (s other : List ℕ) (limit m room : ℕ) (rows : List Row) (er : rows ≡ index_after s m) (lr : length rows ≡ m) (was : List ℕ) (z : was ≡ replicate room 0) where
   -- by the two lists
-  abbrev Done : Listed → Listed → Type 0
+  abbrev Done : Result Mark Refusal → Result Mark Refusal → Type 0
   Done built asked =
       (count_in asked ≤ room) × (0 < count_in asked → Indexed s (count_in built) rows × Sound other (count_in asked)) × (sets was 0 (matches_from s limit other (count_in asked) 5) ≡ found_by asked s limit other room)
 
-  done_marked : (n top k last : ℕ) → indexed_as s m ≡ Marked n top → searched_by room (Marked n top) (listed_as other) ≡ Marked k last → Done (Marked n top) (Marked k last)
+  done_marked : (n top k last : ℕ) → indexed_as s m ≡ Ok (record { contacts = n; largest = top }) → searched_by room (Ok (record { contacts = n; largest = top })) (listed_as other) ≡ Ok (record { contacts = k; largest = last }) → Done (Ok (record { contacts = n; largest = top })) (Ok (record { contacts = k; largest = last }))
   unfolding count_in Indexed Checked found_by contacts_of
   done_marked n top k last e f =
-      let F = listed_fits other room (listed_as other) k last (marked_alike other room (Marked n top) (Marked n top) n top (listed_as other) ∙ f) in
+      let F = listed_fits other room (listed_as other) (record { contacts = n; largest = top }) k last f in
       let A = accepted other k last F.0 in
       let c : k ≡ count_of other = A.count in
       let w : List ℕ = matches_from s limit other k 5 in
@@ -166,27 +162,27 @@ module _ (s other : List ℕ) (limit m room : ℕ) (rows : List Row) (er : rows 
         rw (← c) (b ∙ ap (λ (q : List ℕ). q ++ replicate (room - k) 0) (matches_map s limit other k 5)),
       )
 
-  done_refused : (built : Listed) (why : Refusal) → Done built (Refused why)
+  done_refused : (built : Result Mark Refusal) (why : Refusal) → Done built (Err why)
   unfolding count_in found_by matches_from
   done_refused built why = (omega arith, λ h. absurd (omega arith), z)
 
-  unasked : {P : Type 0} (why : Refusal) (k last : ℕ) → searched_by room (Refused why) (listed_as other) ≡ Marked k last → P
+  unasked : {P : Type 0} (why : Refusal) (k last : ℕ) → searched_by room (Err why) (listed_as other) ≡ Ok (record { contacts = k; largest = last }) → P
   unfolding searched_by
   unasked why k last f = marked_refused k last why f
 
-  done_by : (built asked : Listed) → indexed_as s m ≡ built → searched_by room built (listed_as other) ≡ asked → Done built asked
-  done_by built (Refused why) e f = done_refused built why
-  done_by (Marked n top) (Marked k last) e f = done_marked n top k last e f
-  done_by (Refused why) (Marked k last) e f = unasked why k last f
+  done_by : (built asked : Result Mark Refusal) → indexed_as s m ≡ built → searched_by room built (listed_as other) ≡ asked → Done built asked
+  done_by built (Err why) e f = done_refused built why
+  done_by (Ok m) (Ok m') e f = done_marked m.contacts m.largest m'.contacts m'.largest e f
+  done_by (Err why) (Ok m) e f = unasked why m.contacts m.largest f
 
   -- the index is kept where the other list is taken, and else cleared
-  left_by : (built asked : Listed) → indexed_as s m ≡ built → searched_by room built (listed_as other) ≡ asked → (n : ℕ) (rows' : List Row) → n ≡ gone_of asked m → rows' ≡ sets rows 0 (replicate n no_row) → rows' ≡ index_by asked s m
+  left_by : (built asked : Result Mark Refusal) → indexed_as s m ≡ built → searched_by room built (listed_as other) ≡ asked → (n : ℕ) (rows' : List Row) → n ≡ gone_of asked m → rows' ≡ sets rows 0 (replicate n no_row) → rows' ≡ index_by asked s m
   unfolding gone_of index_by index_after
-  left_by built (Refused why) e f n rows' en q = q ∙ rw en (all_cleared rows m lr)
-  left_by (Marked b top) (Marked k last) e f n rows' en q = q ∙ rw en (er ∙ rw e refl)
-  left_by (Refused why) (Marked k last) e f n rows' en q = unasked why k last f
+  left_by built (Err why) e f n rows' en q = q ∙ rw en (all_cleared rows m lr)
+  left_by (Ok m) (Ok m') e f n rows' en q = q ∙ rw en (er ∙ rw e refl)
+  left_by (Err why) (Ok m) e f n rows' en q = unasked why m.contacts m.largest f
 
-  module _ (built asked : Listed) (lent : ℕ) (el : lent ≡ room) (eb : built ≡ indexed_as s m) (ea : asked ≡ searched_by lent built (listed_as other)) where
+  module _ (built asked : Result Mark Refusal) (lent : ℕ) (el : lent ≡ room) (eb : built ≡ indexed_as s m) (ea : asked ≡ searched_by lent built (listed_as other)) where
     as_asked : asked ≡ searched_by room built (listed_as other)
     as_asked = rw el at ea
 
@@ -202,12 +198,12 @@ module _ (s other : List ℕ) (limit m room : ℕ) (rows : List Row) (er : rows 
 
     pub up_answer : asked ≡ searched_as s other m room
     unfolding searched_as
-    up_answer = as_asked ∙ ap (λ (b : Listed). searched_by room b (listed_as other)) eb
+    up_answer = as_asked ∙ ap (λ (b : Result Mark Refusal). searched_by room b (listed_as other)) eb
 
     pub up_found : (k : ℕ) (found : List ℕ) → k ≡ count_in asked → found ≡ sets was 0 (matches_from s limit other k 5) → (v : ℕ) → limit ≡ v → found ≡ found_after s v other m room
     unfolding found_after
-    up_found k found ek ef v ev = rw (← ev) (ef ∙ rw ek whole.2 ∙ ap (λ (x : Listed). found_by x s limit other room) up_answer)
+    up_found k found ek ef v ev = rw (← ev) (ef ∙ rw ek whole.2 ∙ ap (λ (x : Result Mark Refusal). found_by x s limit other room) up_answer)
 
     pub up_index : (n : ℕ) (rows' : List Row) → n ≡ gone_of asked m → rows' ≡ sets rows 0 (rows_from s 0 5 ++ replicate (n - 0) no_row) → rows' ≡ index_left s other m room
     unfolding index_left
-    up_index n rows' en q = left_by built asked (sym eb) (sym as_asked) n rows' en (cleared_is s n rows rows' q) ∙ ap (λ (x : Listed). index_by x s m) up_answer
+    up_index n rows' en q = left_by built asked (sym eb) (sym as_asked) n rows' en (cleared_is s n rows rows' q) ∙ ap (λ (x : Result Mark Refusal). index_by x s m) up_answer

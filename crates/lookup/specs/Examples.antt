@@ -1,18 +1,17 @@
 -- Worked examples.
-use Rattle.std.specs.Prelude.{◌≡◌, refl, List, [], ◌∷◌, ◌++◌, ℕ}
+use Rattle.std.specs.Prelude.{◌≡◌, refl, List, [], ◌∷◌, ◌++◌, ℕ, Ok, Err}
 use Rattle.text.specs.Ascii.{ascii}
 use Rattle.text.specs.Walk.{lead}
 use Rattle.text.specs.Utf8.{char_len, long_char, second3, second4, valid_up_to, utf8}
 use Rattle.refusals.specs.declared.Refusal.TheVariants.{ShortTable}
 use Rattle.contacts.specs.Contacts.{plain, is_date, is_time, sound_head, sound_texts, sound}
 use Rattle.contacts.specs.Lists.{number_at, text_at, after, call_at, date_at, time_at, band_at, mode_at, end_at, id_at, services_at, contact_at, fits, good_at, entries_from, count_of, listed_as}
-use Rattle.contacts.specs.declared.Listed.TheVariants.{Marked, Refused}
 use Rattle.index.specs.Rows.{no_row}
 use Rattle.indexing.specs.Index.{index_of, indexed_by, indexed_as, index_by}
 use Rattle.lookup.specs.Lookup.{searched_by, searched_as, index_left}
 
 -- one contact to look up, and no number lent for it
-no_number : searched_by 0 (Marked 3 9) (Marked 1 7) ≡ Refused ShortTable
+no_number : searched_by 0 (Ok (record { contacts = 3; largest = 9 })) (Ok (record { contacts = 1; largest = 7 })) ≡ Err ShortTable
 unfolding searched_by
 no_number = refl
 

@@ -8,8 +8,9 @@ ghost use Rattle.contacts.specs.Lists.{listed_as};
 ghost use Rattle.index.specs.Contacts.{plain};
 ghost use Rattle.lookup.specs.Lookup.{Asks, matches_from, searched_by, searched_as, gone_of, index_left, found_after};
 
-use contacts::Listed;
+use contacts::Mark;
 use index::Contact;
+use refusals::Refusal;
 use search::Hit;
 
 fn number_of(hit: Hit) -> u64
@@ -31,50 +32,30 @@ fn match_each(
     requires { (k ≤ length found.old) × Asks list.now n (plain rows.now) other.now k }
     ensures { found.new ≡ sets found.old 0 (matches_from list.now limit other.now k 5) }
 {
-    let mut at = 5;
-    let mut i = 0;
-    while i < k {
+    let mut at = contacts::ENTRIES;
+    for i in 0..k {
         let wanted = wanted::wanted_at(other, at);
         let hit = search::find(other, list, rows, n, wanted, limit);
         found[i] = number_of(hit);
         at = contacts::end_at(other, at);
-        i += 1;
-    }
-}
-
-fn clear(found: &mut [u64])
-    ensures { found.new ≡ replicate (length found.old) 0 }
-{
-    let mut i = 0;
-    while i < found.len() {
-        found[i] = 0;
-        i += 1;
     }
 }
 
 // The other list's mark, where there is an index to search and a number for each of its contacts.
-fn asked_of(built: Listed, other: &[u8], room: usize) -> Listed
+fn asked_of(built: Result<Mark, Refusal>, other: &[u8], room: usize) -> Result<Mark, Refusal>
     ensures { result ≡ searched_by room built (listed_as other.now) }
 {
-    match built {
-        Listed::Refused(why) => Listed::Refused(why),
-        Listed::Marked {
-            contacts: _,
-            largest: _,
-        } => indexing::listed_in(other, room),
-    }
+    built?;
+    indexing::listed_in(other, room)
 }
 
 // How many of the index's records are cleared: all after a refusal, else none.
-fn gone(asked: Listed, records: usize) -> usize
+fn gone(asked: Result<Mark, Refusal>, records: usize) -> usize
     ensures { result ≡ gone_of asked records }
 {
     match asked {
-        Listed::Refused(_) => records,
-        Listed::Marked {
-            contacts: _,
-            largest: _,
-        } => 0,
+        Err(_) => records,
+        Ok(_) => 0,
     }
 }
 
@@ -85,12 +66,12 @@ pub fn look_up(
     window: i64,
     rows: &mut [Contact],
     found: &mut [u64],
-) -> Listed
+) -> Result<Mark, Refusal>
     ensures value { result ≡ searched_as list.now other.now (length rows.old) (length found.old) }
     ensures rows_after { plain rows.new ≡ index_left list.now other.now (length rows.old) (length found.old) }
     ensures found_after { found.new ≡ found_after list.now (limit_of window) other.now (length rows.old) (length found.old) }
 {
-    clear(found);
+    found.fill(0);
     let limit = times::window::limit_of(window);
     let built = indexing::build(list, rows);
     let asked = asked_of(built, other, found.len());

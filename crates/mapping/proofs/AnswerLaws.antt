@@ -1,4 +1,6 @@
 -- The numbers of a QSO, and the answer of a mapping. Assumes nothing.
+use Rattle.std.specs.Prelude.{Option, Some, None}
+use Rattle.decimal.specs.declared.Signed.{Signed}
 use mathlib.Core.Path.{◌≡◌, refl, sym, ap, ◌∙◌}
 use mathlib.Core.Bool.{Bool, true, false}
 use mathlib.Core.List.{List, []}
@@ -12,8 +14,6 @@ use Rattle.text.specs.Walk.{lead}
 use Rattle.letters.specs.Capitals.{raised}
 use Rattle.letters.specs.Same.{same_raised}
 use Rattle.decimal.specs.Decimal.{digits_after, digits_of, leads, unsigned_of, above_zero, below_zero, signed_of}
-use Rattle.decimal.specs.declared.Signed.{Signed}
-use Rattle.decimal.specs.declared.Signed.TheVariants.{Of, Bad}
 use Rattle.mhz.specs.Digits.{number_of}
 use Rattle.mhz.specs.Number.{negative, unsigned, pointed, whole_part, fraction_part, after_decimal, all_digits, decimal_of, is_infinity, is_nan, unsigned_number, number_in}
 use Rattle.mhz.specs.Reading.{read_hertz}
@@ -34,7 +34,7 @@ use Rattle.model.specs.declared.Qso.{Qso}
 use Rattle.model.specs.declared.Answer.{Answer}
 use Rattle.mapping.specs.Mapping.{columns_of, is_outside, frequency_of, dxcc_of, dxcc_at, qso_with, answer_with, answer_over, mapped, is_record, mapped_to, with_normal, normal_to}
 
-pub number_is : (s : Signed) (n : Bool) (size m : ℕ) → s ≡ Of n size → m ≡ one_if n → ◌≡◌ {A = Dxcc} (record { given = 1; negative = m; size = size }) (dxcc_of s)
+pub number_is : (s : Option Signed) (n : Bool) (size m : ℕ) → s ≡ Some (record { negative = n; size = size }) → m ≡ one_if n → ◌≡◌ {A = Dxcc} (record { given = 1; negative = m; size = size }) (dxcc_of s)
 number_is s n size m e em = rw (e, em) refl
 
 pub hertz_is : (h : Hz) (n : ℕ) → h ≡ Is n → ◌≡◌ {A = Frequency} (record { given = 1; hz = n }) (frequency_of h)
@@ -45,7 +45,7 @@ pub no_hertz : read_hertz [] ≡ Absent
 unfolding read_hertz number_in unsigned_number is_infinity is_nan decimal_of whole_part fraction_part after_decimal pointed unsigned negative all_digits number_of same_raised raised trimmed trim_start trim_end lead space_len space_back width space1 space2 space3 space80
 no_hertz = refl
 
-pub no_number : signed_of (trimmed []) ≡ Bad
+pub no_number : signed_of (trimmed []) ≡ None
 unfolding signed_of leads unsigned_of digits_of digits_after above_zero below_zero trimmed trim_start trim_end lead space_len space_back width space1 space2 space3 space80
 no_number = refl
 
@@ -64,7 +64,7 @@ module _ (text : List ℕ) (p : Place) where
   pub hertz_said : (x : List ℕ) (h : Hz) → x ≡ part text p → h ≡ read_hertz x → h ≡ read_hertz (part text p)
   hertz_said x h ex eh = eh ∙ ap read_hertz ex
 
-  pub number_said : (x d : List ℕ) (s : Signed) (r : Dxcc) → x ≡ part text p → d ≡ trimmed x → s ≡ signed_of d → r ≡ dxcc_of s
+  pub number_said : (x d : List ℕ) (s : Option Signed) (r : Dxcc) → x ≡ part text p → d ≡ trimmed x → s ≡ signed_of d → r ≡ dxcc_of s
       → r ≡ dxcc_of (signed_of (trimmed (part text p)))
   number_said x d s r ex ed es er = rw (er, es, ed, ex) refl
 
@@ -105,13 +105,9 @@ module _ (text table : List ℕ) (first count : ℕ) (r : Answer) (q : Qso) (eq 
   too_long h er = rw (lt-leb _ _ h) (er ∙ ap (refused TooLong) eq)
 
   module _ (h : length text ≤ 16777216) (er : r ≡ refused BadRow q) where
-    pub starts_past : length table / 5 < first → r ≡ mapped_to text table first count
+    pub past : length table / 5 < first + count → r ≡ mapped_to text table first count
     unfolding mapped_to
-    starts_past l = rw (le-leb _ _ h, lt-leb (first + count) (length table / 5) (omega arith)) (er ∙ ap (refused BadRow) eq)
-
-    pub ends_past : first ≤ length table / 5 → length table / 5 - first < count → r ≡ mapped_to text table first count
-    unfolding mapped_to
-    ends_past l m = rw (le-leb _ _ h, lt-leb (first + count) (length table / 5) (omega arith)) (er ∙ ap (refused BadRow) eq)
+    past l = rw (le-leb _ _ h, lt-leb (first + count) (length table / 5) l) (er ∙ ap (refused BadRow) eq)
 
     pub no_record : first ≤ length table / 5 → count ≤ length table / 5 - first → (b : Bool) → b ≡ is_record text (rows_from table first count) → b ≡ false
         → r ≡ mapped_to text table first count

@@ -1,4 +1,6 @@
 -- The columns as the rows fill them, and the tests of rows. Assumes nothing.
+use Rattle.std.specs.Prelude.{Option, Some, None}
+use Rattle.std.specs.declared.cmp.Ordering.{Ordering}
 use mathlib.Core.Path.{◌≡◌, refl, sym, ap, ◌∙◌}
 use mathlib.Core.Bool.{Bool, true, false}
 use mathlib.Core.List.{List, ◌∷◌}
@@ -8,13 +10,10 @@ use lib.Dec.{eqb, ltb}
 use lib.ListN.{set, replicate}
 use Rattle.text.specs.Pick.{both}
 use Rattle.letters.specs.Order.{order_raised}
-use Rattle.letters.specs.declared.Order.{Order}
 use Rattle.rowcheck.specs.Check.{Row, record_in, name_in, placed, sound, is_less}
 use Rattle.writer.specs.Rows.{row_at, rows_from}
 use Rattle.writer.proofs.RowLaws.{row_before}
 use Rattle.tables.specs.Place.{absent, value_place}
-use Rattle.tables.specs.declared.Found.{Found}
-use Rattle.tables.specs.declared.Found.TheVariants.{At, Nothing}
 use Rattle.tables.specs.declared.Place.{Place}
 use Rattle.columns.specs.Columns.{column_names, column_named}
 use Rattle.columns.proofs.LaidLaws.{no_column_filled, column_filled, column_below}
@@ -28,11 +27,11 @@ no_rows text t first count p e =
     rw (e, z) refl
 
 module _ (text t : List ℕ) (first count i : ℕ) (h : 0 < i) (l : i ≤ count) (cs : List Place) (ec : cs ≡ columns_of text (rows_from t (first + i) (count - i)))
-    (row : Row) (er : row ≡ row_at t (first + (i - 1))) (name : List ℕ) (en : name ≡ name_in text row) (found : Found) (ef : found ≡ column_named name) where
+    (row : Row) (er : row ≡ row_at t (first + (i - 1))) (name : List ℕ) (en : name ≡ name_in text row) (found : Option ℕ) (ef : found ≡ column_named name) where
   names_it : column_named (name_in text (row_at t (first + (i - 1)))) ≡ found
   names_it = sym (ef ∙ ap column_named (en ∙ ap (name_in text) er))
 
-  pub row_extra : found ≡ Nothing → cs ≡ columns_of text (rows_from t (first + (i - 1)) (count - (i - 1)))
+  pub row_extra : found ≡ None → cs ≡ columns_of text (rows_from t (first + (i - 1)) (count - (i - 1)))
   unfolding columns_of
   row_extra n =
       rw (row_before t first count i h l)
@@ -40,7 +39,7 @@ module _ (text t : List ℕ) (first count i : ℕ) (h : 0 < i) (l : i ≤ count)
       ∙ sym (no_column_filled (name_in text (row_at t (first + (i - 1)))) (value_place (row_at t (first + (i - 1)))) (place_named text (rows_from t (first + i) (count - i)))
       (place_named text (row_at t (first + (i - 1)) ∷ rows_from t (first + i) (count - i))) (λ x. refl) (names_it ∙ n)))
 
-  module _ (k : ℕ) (n : found ≡ At k) where
+  module _ (k : ℕ) (n : found ≡ Some k) where
     pub row_column : (p : Place) → p ≡ value_place row → set cs k p ≡ columns_of text (rows_from t (first + (i - 1)) (count - (i - 1)))
     unfolding columns_of
     row_column p ep =
@@ -48,7 +47,7 @@ module _ (text t : List ℕ) (first count i : ℕ) (h : 0 < i) (l : i ≤ count)
         (sym (column_filled (name_in text (row_at t (first + (i - 1)))) (value_place (row_at t (first + (i - 1)))) (place_named text (rows_from t (first + i) (count - i)))
         (place_named text (row_at t (first + (i - 1)) ∷ rows_from t (first + i) (count - i))) (λ x. refl) k (names_it ∙ n)))
 
-pub a_column_below : (name : List ℕ) (found : Found) (k : ℕ) → found ≡ column_named name → found ≡ At k → k < 13
+pub a_column_below : (name : List ℕ) (found : Option ℕ) (k : ℕ) → found ≡ column_named name → found ≡ Some k → k < 13
 a_column_below name found k ef n = column_below name k (sym ef ∙ n)
 
 pub all_rows : (text t : List ℕ) (first count i : ℕ) (cs : List Place) → i ≤ 0 → cs ≡ columns_of text (rows_from t (first + i) (count - i))
@@ -64,7 +63,7 @@ pub is_row_lem : (text : List ℕ) (r : Row) (p s t : Bool) → p ≡ placed tex
 unfolding is_row
 is_row_lem text r p s t ep es et = rw (et, ep, es) refl
 
-pub does_rise : (text : List ℕ) (p r : Row) (u v : List ℕ) (o : Order) (l t : Bool) → u ≡ name_in text p → v ≡ name_in text r → o ≡ order_raised u v → l ≡ is_less o
+pub does_rise : (text : List ℕ) (p r : Row) (u v : List ℕ) (o : Ordering) (l t : Bool) → u ≡ name_in text p → v ≡ name_in text r → o ≡ order_raised u v → l ≡ is_less o
     → t ≡ both (eqb (record_in r) (record_in p)) l → t ≡ rises text p r
 unfolding rises
 does_rise text p r u v o l t eu ev eo el et = rw (et, el, eo, eu, ev) refl

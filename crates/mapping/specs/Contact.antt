@@ -1,12 +1,10 @@
 -- A record mapped to a contact, as bytes: the columns by name, their numbers read, and all other fields as they are.
-use Rattle.std.specs.Prelude.{ℕ, List, [], ◌∷◌, ℤ, get_or}
-use Rattle.std.proofs.Math.Option.{Option, none, some}
+use Rattle.decimal.specs.declared.Signed.{Signed}
+use Rattle.std.specs.Prelude.{ℕ, List, [], ◌∷◌, ℤ, get_or, Some, None, Option}
 use Rattle.text.specs.Pick.{pick}
 use Rattle.text.specs.Space.{trimmed}
 use Rattle.letters.specs.Same.{same}
 use Rattle.decimal.specs.Decimal.{signed_of}
-use Rattle.decimal.specs.declared.Signed.{Signed}
-use Rattle.decimal.specs.declared.Signed.TheVariants.{Of, Bad}
 use Rattle.mhz.specs.Reading.{read_hertz}
 use Rattle.mhz.specs.declared.Hz.{Hz}
 use Rattle.mhz.specs.declared.Hz.TheVariants.{Absent, Is, Outside}
@@ -18,8 +16,8 @@ use Rattle.model.specs.Contact.{Contact, signed}
 
 -- the value of the field of that name
 abbrev pub value_named : List ℕ → List Field → Option (List ℕ)
-value_named name [] = none
-value_named name (f ∷ fs) = pick (same f.name name) (some f.value) (value_named name fs)
+value_named name [] = None
+value_named name (f ∷ fs) = pick (same f.name name) (Some f.value) (value_named name fs)
 
 -- the value of a column, by its number
 abbrev pub column_value : ℕ → List Field → Option (List ℕ)
@@ -27,22 +25,22 @@ column_value k fs = value_named (get_or column_names k []) fs
 
 -- a frequency, if the text says one; outside the exact window none is known
 abbrev pub hertz_read : Hz → Option ℕ
-hertz_read Absent = none
-hertz_read (Is n) = some n
-hertz_read Outside = none
+hertz_read Absent = None
+hertz_read (Is n) = Some n
+hertz_read Outside = None
 
 abbrev pub frequency_read : Option (List ℕ) → Option ℕ
-frequency_read none = none
-frequency_read (some x) = hertz_read (read_hertz x)
+frequency_read None = None
+frequency_read (Some x) = hertz_read (read_hertz x)
 
 -- DXCC is trimmed and is a signed 64-bit number or absent
-abbrev pub entity_read : Signed → Option ℤ
-entity_read (Of negative size) = some (signed negative size)
-entity_read Bad = none
+abbrev pub entity_read : Option Signed → Option ℤ
+entity_read (Some n) = Some (signed n.negative n.size)
+entity_read None = None
 
 abbrev pub dxcc_read : Option (List ℕ) → Option ℤ
-dxcc_read none = none
-dxcc_read (some x) = entity_read (signed_of (trimmed x))
+dxcc_read None = None
+dxcc_read (Some x) = entity_read (signed_of (trimmed x))
 
 -- the fields that are no columns
 abbrev pub extra_fields : List Field → List Field

@@ -1,6 +1,5 @@
 -- Worked examples, over the text "band40m  dxcc-7foo".
-use Rattle.std.specs.Prelude.{◌≡◌, refl, List, [], ◌∷◌, ℕ, negsuc, set}
-use Rattle.std.proofs.Math.Option.{some}
+use Rattle.std.specs.Prelude.{◌≡◌, refl, List, [], ◌∷◌, ℕ, negsuc, set, Some}
 use Rattle.text.specs.Ascii.{ascii}
 use Rattle.text.specs.Space.{space1, space2, space3, space80, space_len, space_back, width, trim_start, trim_end, trimmed}
 use Rattle.text.specs.Utf8.{char_len, long_char, second3, second4, valid_up_to, utf8}
@@ -61,7 +60,7 @@ outside = refl
 abbrev fields : List Field
 fields = record { name = ascii "BAND"; value = ascii "40m  " } ∷ record { name = ascii "DXCC"; value = ascii "-7" } ∷ record { name = ascii "FOO"; value = [] } ∷ []
 
-its_entity : (contact_of fields).dxcc ≡ some (negsuc 6)
+its_entity : (contact_of fields).dxcc ≡ Some (negsuc 6)
 unfolding contact_of column_names signed_of leads digits_of digits_after below_zero trimmed trim_start trim_end lead space_len space_back width space1 space2 space3 space80
 its_entity = refl
 

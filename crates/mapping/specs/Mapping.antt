@@ -1,12 +1,11 @@
 -- A record's rows mapped to a QSO over their text, and which rows are a record's.
-use Rattle.std.specs.Prelude.{ℕ, ◌+◌, ◌/◌, Bool, true, false, List, [], ◌∷◌, map, eqb, leb, ltb, length, get_or}
+use Rattle.decimal.specs.declared.Signed.{Signed}
+use Rattle.std.specs.Prelude.{ℕ, ◌+◌, ◌/◌, Bool, true, false, List, [], ◌∷◌, map, eqb, leb, ltb, length, get_or, Option, Some, None}
 use Rattle.text.specs.Pick.{pick, both, either}
 use Rattle.text.specs.Space.{trimmed}
 use Rattle.letters.specs.Same.{same_raised}
 use Rattle.letters.specs.Order.{order_raised}
 use Rattle.decimal.specs.Decimal.{signed_of}
-use Rattle.decimal.specs.declared.Signed.{Signed}
-use Rattle.decimal.specs.declared.Signed.TheVariants.{Of, Bad}
 use Rattle.mhz.specs.Reading.{read_hertz}
 use Rattle.mhz.specs.declared.Hz.{Hz}
 use Rattle.mhz.specs.declared.Hz.TheVariants.{Absent, Is, Outside}
@@ -52,9 +51,9 @@ frequency_of Absent = no_frequency
 frequency_of (Is n) = record { given = 1; hz = n }
 frequency_of Outside = no_frequency
 
-abbrev pub dxcc_of : Signed → Dxcc
-dxcc_of (Of negative size) = record { given = 1; negative = one_if negative; size = size }
-dxcc_of Bad = no_dxcc
+abbrev pub dxcc_of : Option Signed → Dxcc
+dxcc_of (Some n) = record { given = 1; negative = one_if n.negative; size = n.size }
+dxcc_of None = no_dxcc
 
 unfoldable pub dxcc_at : List ℕ → List Place → Dxcc
 dxcc_at text columns = dxcc_of (signed_of (trimmed (part text (get_or columns dxcc absent))))

@@ -16,7 +16,7 @@ use decimal::Signed;
 use mhz::Hz;
 use model::{Answer, Dxcc, Frequency, Qso};
 use refusals::Refusal;
-use tables::{Found, Place, places};
+use tables::{Place, places};
 
 // From the last row to the first, so that of two rows of one name the first stands.
 fn columns_of(text: &[u8], table: &[u32], first: usize, count: usize) -> [Place; 13]
@@ -24,12 +24,9 @@ fn columns_of(text: &[u8], table: &[u32], first: usize, count: usize) -> [Place;
     ensures { result ≡ columns_of text.now (rows_from table.now first count) }
 {
     let mut columns = [places::absent(); 13];
-    let mut i = count;
-    while 0 < i {
-        i -= 1;
+    for i in (0..count).rev() {
         let row = writer::row_at(table, first + i);
-        let found = columns::column_of(rowcheck::name_of(text, row));
-        let Found::At(k) = found else {
+        let Some(k) = columns::column_of(rowcheck::name_of(text, row)) else {
             continue;
         };
         columns[k as usize] = places::value_place(row);
@@ -40,33 +37,28 @@ fn columns_of(text: &[u8], table: &[u32], first: usize, count: usize) -> [Place;
 fn is_outside(hz: Hz) -> bool
     ensures { result ≡ is_outside hz }
 {
-    match hz {
-        Hz::Absent => false,
-        Hz::Is(_) => false,
-        Hz::Outside => true,
-    }
+    matches!(hz, Hz::Outside)
 }
 
 fn frequency_of(hz: Hz) -> Frequency
     ensures { result ≡ frequency_of hz }
 {
     match hz {
-        Hz::Absent => model::no_frequency(),
-        Hz::Is(n) => Frequency { given: 1, hz: n },
-        Hz::Outside => model::no_frequency(),
+        Hz::Is(hz) => Frequency { given: 1, hz },
+        Hz::Absent | Hz::Outside => model::no_frequency(),
     }
 }
 
-fn dxcc_of(number: Signed) -> Dxcc
+fn dxcc_of(number: Option<Signed>) -> Dxcc
     ensures { result ≡ dxcc_of number }
 {
     match number {
-        Signed::Of { negative, size } => Dxcc {
+        Some(Signed { negative, size }) => Dxcc {
             given: 1,
             negative: model::one_if(negative),
-            size: size,
+            size,
         },
-        Signed::Bad => model::no_dxcc(),
+        None => model::no_dxcc(),
     }
 }
 
@@ -173,14 +165,12 @@ fn is_record(text: &[u8], table: &[u32], first: usize, count: usize) -> bool
     if !starts_record(text, p) {
         return false;
     }
-    let mut i = 1;
-    while i < count {
+    for i in 1..count {
         let row = writer::row_at(table, first + i);
         if !continues_record(text, p, row) {
             return false;
         }
         p = row;
-        i += 1;
     }
     true
 }
@@ -193,10 +183,7 @@ pub fn record_to_qso(text: &[u8], table: &[u32], first: usize, count: usize) -> 
         return model::refused(Refusal::TooLong, model::empty());
     }
     let rows = table.len() / 5;
-    if rows < first {
-        return model::refused(Refusal::BadRow, model::empty());
-    }
-    if rows - first < count {
+    if rows < first || rows - first < count {
         return model::refused(Refusal::BadRow, model::empty());
     }
     if !is_record(text, table, first, count) {
@@ -209,11 +196,9 @@ fn normal_answer(text: &[u8], answer: Answer) -> Answer
     requires { length text.now ≤ 16777216 }
     ensures { result ≡ with_normal text.now answer }
 {
-    let qso = answer.qso;
-    let verdict = answer.verdict;
     Answer {
-        qso: qso.normalize(text),
-        verdict,
+        qso: answer.qso.normalize(text),
+        ..answer
     }
 }
 

@@ -1,9 +1,9 @@
 -- A name of the bands is its own canonical form and is not blank; a name of the modes names no band. So normalising a contact twice is
 -- normalising it once. Assumes nothing.
+use Rattle.std.specs.Prelude.{Some, None, Option}
 use mathlib.Core.Path.{◌≡◌, refl, ap, ◌∙◌}
 use mathlib.Core.Bool.{Bool, true, false, not}
 use mathlib.Core.List.{List, [], ◌∷◌}
-use mathlib.Core.Option.{Option, none, some}
 use Prim.Native.Nat.{ℕ, zero, suc}
 use native.Mathlib.Omega.{arith}
 use borrow.Author.Tests.{not-true}
@@ -17,8 +17,6 @@ use Rattle.letters.proofs.SameLaws.{same_true}
 use Rattle.tables.specs.Table.{named, entry}
 use Rattle.tables.specs.Bands.{bands, band_names, band_for, band_named}
 use Rattle.tables.specs.Modes.{modes, mode_names}
-use Rattle.tables.specs.declared.Found.{Found}
-use Rattle.tables.specs.declared.Found.TheVariants.{At, Nothing}
 use Rattle.tables.proofs.Tested.{all}
 use Rattle.normalize.specs.Normal.{otherwise, normal}
 use Rattle.normalize.proofs.ModeTheorems.{normal_twice, is_none, is_none_lem}
@@ -27,8 +25,8 @@ use Rattle.model.specs.Normal.{band_name, band_of, canonical, is_blank, normal_b
 
 -- ---- the tables, tested once
 abbrev pub names : Option (List ℕ) → List ℕ → Bool
-names none x = false
-names (some y) x = same y x
+names None x = false
+names (Some y) x = same y x
 
 unfoldable pub settled : List ℕ → Bool
 settled x = both (not (is_blank x)) (names (canonical x) x)
@@ -44,7 +42,7 @@ modes_foreign : all foreign mode_names ≡ true
 unfolding foreign is_blank canonical band_named named band_names bands mode_names modes trimmed trim_start trim_end lead space_len space_back width space1 space2 space3 space80 same_raised raised
 modes_foreign = refl
 
-entry_tested : (test : List ℕ → Bool) (xs : List (List ℕ)) (k : ℕ) (y : List ℕ) → all test xs ≡ true → entry xs k ≡ some y → test y ≡ true
+entry_tested : (test : List ℕ → Bool) (xs : List (List ℕ)) (k : ℕ) (y : List ℕ) → all test xs ≡ true → entry xs k ≡ Some y → test y ≡ true
 entry_tested test [] k y t e = absurd (let z : ◌≡◌ {A = ℕ} 0 1 = cc in omega arith)
 entry_tested test (x ∷ xs) zero y t e =
     let z : x ≡ y = cc in
@@ -56,38 +54,38 @@ module _ (x : List ℕ) (e : settled x ≡ true) where
   unfolding settled
   settled_not_blank = not-true (is_blank x) (both_left (not (is_blank x)) (names (canonical x) x) e)
 
-  pub settled_canonical : canonical x ≡ some x
+  pub settled_canonical : canonical x ≡ Some x
   unfolding settled
   settled_canonical = by (canonical x) refl (both_right (not (is_blank x)) (names (canonical x) x) e)
     where
-      by : (o : Option (List ℕ)) → canonical x ≡ o → names o x ≡ true → o ≡ some x
-      by none p q = absurd (let z : ◌≡◌ {A = ℕ} 0 1 = cc in omega arith)
-      by (some y) p q = ap some (same_true y x q)
+      by : (o : Option (List ℕ)) → canonical x ≡ o → names o x ≡ true → o ≡ Some x
+      by None p q = absurd (let z : ◌≡◌ {A = ℕ} 0 1 = cc in omega arith)
+      by (Some y) p q = ap Some (same_true y x q)
 
 module _ (x : List ℕ) (e : foreign x ≡ true) where
   pub foreign_not_blank : is_blank x ≡ false
   unfolding foreign
   foreign_not_blank = not-true (is_blank x) (both_left (not (is_blank x)) (is_none (canonical x)) e)
 
-  pub foreign_canonical : canonical x ≡ none
+  pub foreign_canonical : canonical x ≡ None
   unfolding foreign
   foreign_canonical = is_none_lem (canonical x) (both_right (not (is_blank x)) (is_none (canonical x)) e)
 
-pub band_entry_lem : (k : ℕ) (y : List ℕ) → entry band_names k ≡ some y → settled y ≡ true
+pub band_entry_lem : (k : ℕ) (y : List ℕ) → entry band_names k ≡ Some y → settled y ≡ true
 band_entry_lem k y e = entry_tested settled band_names k y bands_settled e
 
-pub mode_entry_lem : (k : ℕ) (y : List ℕ) → entry mode_names k ≡ some y → foreign y ≡ true
+pub mode_entry_lem : (k : ℕ) (y : List ℕ) → entry mode_names k ≡ Some y → foreign y ≡ true
 mode_entry_lem k y e = entry_tested foreign mode_names k y modes_foreign e
 
-found_settled : (f : Found) (y : List ℕ) → band_name f ≡ some y → settled y ≡ true
-found_settled (At k) y e = band_entry_lem k y e
-found_settled Nothing y e = absurd (let z : ◌≡◌ {A = ℕ} 0 1 = cc in omega arith)
+found_settled : (f : Option ℕ) (y : List ℕ) → band_name f ≡ Some y → settled y ≡ true
+found_settled (Some k) y e = band_entry_lem k y e
+found_settled None y e = absurd (let z : ◌≡◌ {A = ℕ} 0 1 = cc in omega arith)
 
-derived_settled : (f : Option ℕ) (y : List ℕ) → band_of f ≡ some y → settled y ≡ true
-derived_settled none y e = absurd (let z : ◌≡◌ {A = ℕ} 0 1 = cc in omega arith)
-derived_settled (some hz) y e = found_settled (band_for hz) y e
+derived_settled : (f : Option ℕ) (y : List ℕ) → band_of f ≡ Some y → settled y ≡ true
+derived_settled None y e = absurd (let z : ◌≡◌ {A = ℕ} 0 1 = cc in omega arith)
+derived_settled (Some hz) y e = found_settled (band_for hz) y e
 
-canonical_settled : (b y : List ℕ) → canonical b ≡ some y → settled y ≡ true
+canonical_settled : (b y : List ℕ) → canonical b ≡ Some y → settled y ≡ true
 unfolding canonical
 canonical_settled b y e = found_settled (band_named b) y e
 
@@ -113,29 +111,29 @@ band_twice b f = by (is_blank b) refl
     by true e = derive (band_of f) refl
       where
         derive : (o : Option (List ℕ)) → band_of f ≡ o → normal_band (normal_band b f) f ≡ normal_band b f
-        derive none p = same_again b (is true e ∙ ap (λ (o : Option (List ℕ)). otherwise o b) p) (is true e ∙ ap (λ (o : Option (List ℕ)). otherwise o b) p)
-        derive (some y) p = same_again y (is true e ∙ ap (λ (o : Option (List ℕ)). otherwise o b) p) (settled_band y f (derived_settled f y p))
+        derive None p = same_again b (is true e ∙ ap (λ (o : Option (List ℕ)). otherwise o b) p) (is true e ∙ ap (λ (o : Option (List ℕ)). otherwise o b) p)
+        derive (Some y) p = same_again y (is true e ∙ ap (λ (o : Option (List ℕ)). otherwise o b) p) (settled_band y f (derived_settled f y p))
     by false e = cased (canonical b) refl
       where
         cased : (o : Option (List ℕ)) → canonical b ≡ o → normal_band (normal_band b f) f ≡ normal_band b f
-        cased none p = same_again b (is false e ∙ ap (λ (o : Option (List ℕ)). otherwise o b) p) (is false e ∙ ap (λ (o : Option (List ℕ)). otherwise o b) p)
-        cased (some y) p = same_again y (is false e ∙ ap (λ (o : Option (List ℕ)). otherwise o b) p) (settled_band y f (canonical_settled b y p))
+        cased None p = same_again b (is false e ∙ ap (λ (o : Option (List ℕ)). otherwise o b) p) (is false e ∙ ap (λ (o : Option (List ℕ)). otherwise o b) p)
+        cased (Some y) p = same_again y (is false e ∙ ap (λ (o : Option (List ℕ)). otherwise o b) p) (settled_band y f (canonical_settled b y p))
 
 cased_twice : (b : List ℕ) → otherwise (canonical (otherwise (canonical b) b)) (otherwise (canonical b) b) ≡ otherwise (canonical b) b
 cased_twice b = by (canonical b) refl
   where
     by : (o : Option (List ℕ)) → canonical b ≡ o → otherwise (canonical (otherwise o b)) (otherwise o b) ≡ otherwise o b
-    by none p = rw p refl
-    by (some y) p = rw (settled_canonical y (canonical_settled b y p)) refl
+    by None p = rw p refl
+    by (Some y) p = rw (settled_canonical y (canonical_settled b y p)) refl
 
 pub band_rx_twice : (b : Option (List ℕ)) (f : Option ℕ) → normal_band_rx (normal_band_rx b f) f ≡ normal_band_rx b f
 unfolding normal_band_rx
-band_rx_twice (some b) f = ap some (cased_twice b)
-band_rx_twice none f = by (band_of f) refl
+band_rx_twice (Some b) f = ap Some (cased_twice b)
+band_rx_twice None f = by (band_of f) refl
   where
     by : (o : Option (List ℕ)) → band_of f ≡ o → normal_band_rx o f ≡ o
-    by none p = p
-    by (some y) p = rw (settled_canonical y (derived_settled f y p)) refl
+    by None p = p
+    by (Some y) p = rw (settled_canonical y (derived_settled f y p)) refl
 
 -- the theorem: normalising is idempotent
 pub contact_twice : (c : Contact) → normal_contact (normal_contact c) ≡ normal_contact c
@@ -146,6 +144,6 @@ contact_twice c =
     let m : normal (normal c.mode c.submode).mode (normal c.mode c.submode).submode ≡ normal c.mode c.submode = normal_twice c.mode c.submode in
     rw (b, x, m) refl
 
-pub no_band_lem : band_named [] ≡ Nothing
+pub no_band_lem : band_named [] ≡ None
 unfolding band_named named band_names bands trimmed trim_start trim_end lead space_len space_back width space1 space2 space3 space80 same_raised raised
 no_band_lem = refl

@@ -1,4 +1,6 @@
 -- The flags of a QSO that mapping gives, taken or refused, are flags, so that no call refuses it for one of them. Assumes nothing.
+use Rattle.std.specs.Prelude.{Option, Some, None}
+use Rattle.decimal.specs.declared.Signed.{Signed}
 use mathlib.Core.Path.{◌≡◌, refl}
 use mathlib.Core.Bool.{Bool, true, false}
 use mathlib.Core.List.{List}
@@ -9,8 +11,6 @@ use Rattle.text.specs.Pick.{pick, both, either}
 use Rattle.text.specs.Space.{trimmed}
 use Rattle.text.proofs.BoolLaws.{both_true}
 use Rattle.decimal.specs.Decimal.{signed_of}
-use Rattle.decimal.specs.declared.Signed.{Signed}
-use Rattle.decimal.specs.declared.Signed.TheVariants.{Of, Bad}
 use Rattle.mhz.specs.declared.Hz.{Hz}
 use Rattle.mhz.specs.declared.Hz.TheVariants.{Absent, Is, Outside}
 use Rattle.refusals.specs.declared.Refusal.TheVariants.{TooLong, BadRow, InexactFrequency}
@@ -18,7 +18,7 @@ use Rattle.writer.specs.Rows.{rows_from}
 use Rattle.tables.specs.Place.{absent, part}
 use Rattle.tables.specs.declared.Place.{Place}
 use Rattle.columns.specs.Columns.{freq, freq_rx, dxcc}
-use Rattle.model.specs.Flags.{is_flag}
+use Rattle.model.specs.Flags.{is_flag, one_if}
 use Rattle.model.specs.Answer.{is_flagged, no_frequency, empty_qso, accepted, refused}
 use Rattle.model.specs.declared.Answer.{Answer}
 use Rattle.model.specs.declared.Frequency.{Frequency}
@@ -29,17 +29,20 @@ hertz_flag Absent = refl
 hertz_flag (Is n) = refl
 hertz_flag Outside = refl
 
-given_flag : (s : Signed) → is_flag (dxcc_of s).given ≡ true
-given_flag (Of n k) = refl
-given_flag Bad = refl
+given_flag : (s : Option Signed) → is_flag (dxcc_of s).given ≡ true
+given_flag (Some n') = refl
+given_flag None = refl
 
-negative_flag : (s : Signed) → is_flag (dxcc_of s).negative ≡ true
-negative_flag (Of true k) = refl
-negative_flag (Of false k) = refl
-negative_flag Bad = refl
+negative_flag : (s : Option Signed) → is_flag (dxcc_of s).negative ≡ true
+negative_flag (Some n) = by n.negative
+  where
+    by : (b : Bool) → is_flag (one_if b) ≡ true
+    by true = refl
+    by false = refl
+negative_flag None = refl
 
 module _ (text : List ℕ) (columns : List Place) where
-  number : Signed
+  number : Option Signed
   number = signed_of (trimmed (part text (get_or columns dxcc absent)))
 
   with_flags : (f g : Frequency) → is_flag f.given ≡ true → is_flag g.given ≡ true → is_flagged (qso_with text columns f g) ≡ true

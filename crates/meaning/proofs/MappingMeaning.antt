@@ -1,8 +1,9 @@
 -- The QSO to which a record's rows are mapped says the contact to which the record's fields are mapped. Assumes nothing.
+use Rattle.std.specs.Prelude.{Option, Some, None}
+use Rattle.decimal.specs.declared.Signed.{Signed}
 use mathlib.Core.Path.{◌≡◌, refl, ap}
 use mathlib.Core.Bool.{Bool, true, false}
 use mathlib.Core.List.{List, [], ◌∷◌, map}
-use mathlib.Core.Option.{some}
 use Prim.Native.Nat.{ℕ}
 use lib.ListN.{get_or}
 use Rattle.text.specs.Ascii.{ascii}
@@ -11,8 +12,6 @@ use Rattle.text.specs.Space.{trimmed}
 use Rattle.letters.specs.Capitals.{raised, capitals}
 use Rattle.letters.specs.Same.{same, same_raised}
 use Rattle.decimal.specs.Decimal.{signed_of}
-use Rattle.decimal.specs.declared.Signed.{Signed}
-use Rattle.decimal.specs.declared.Signed.TheVariants.{Of, Bad}
 use Rattle.mhz.specs.Reading.{read_hertz}
 use Rattle.mhz.specs.declared.Hz.{Hz}
 use Rattle.mhz.specs.declared.Hz.TheVariants.{Absent, Is, Outside}
@@ -22,7 +21,9 @@ use Rattle.rowcheck.specs.Check.{Row, name_in}
 use Rattle.writer.specs.Rows.{row_field}
 use Rattle.columns.specs.Columns.{column_names, is_column}
 use Rattle.columns.proofs.ColumnLaws.{named_raised}
-use Rattle.model.specs.Contact.{contact, hertz, entity}
+use Rattle.model.specs.Contact.{contact, hertz, entity, signed}
+use Rattle.model.specs.Flags.{one_if}
+use Rattle.model.specs.declared.Dxcc.{Dxcc}
 use Rattle.mapping.specs.Contact.{value_named, hertz_read, frequency_read, entity_read, dxcc_read, extra_fields, contact_of}
 use Rattle.mapping.specs.Mapping.{place_named, columns_of, extra_rows, frequency_of, dxcc_of, dxcc_at, qso_with}
 use Rattle.mapping.proofs.AnswerLaws.{no_hertz, no_number}
@@ -85,10 +86,13 @@ hertz_said Absent = refl
 hertz_said (Is n) = refl
 hertz_said Outside = refl
 
-entity_said : (s : Signed) → entity (dxcc_of s) ≡ entity_read s
-entity_said (Of true k) = refl
-entity_said (Of false k) = refl
-entity_said Bad = refl
+entity_said : (s : Option Signed) → entity (dxcc_of s) ≡ entity_read s
+entity_said (Some n) = by n.negative
+  where
+    by : (b : Bool) → entity (record { given = 1; negative = one_if b; size = n.size }) ≡ Some (signed b n.size)
+    by true = refl
+    by false = refl
+entity_said None = refl
 
 module _ (text : List ℕ) where
   -- a column, by its name in capitals
@@ -98,7 +102,7 @@ module _ (text : List ℕ) where
   named_value name c (r ∷ rs) = rw c (by (same (capitals (name_in text r)) name) (named_value name c rs))
     where
       by : (t : Bool) → value text (place_named text rs name) ≡ value_named name (map (row_field text) rs)
-          → value text (pick t (value_place r) (place_named text rs name)) ≡ pick t (some (row_field text r).value) (value_named name (map (row_field text) rs))
+          → value text (pick t (value_place r) (place_named text rs name)) ≡ pick t (Some (row_field text r).value) (value_named name (map (row_field text) rs))
       by true e = refl
       by false e = e
 

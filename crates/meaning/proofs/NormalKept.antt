@@ -1,4 +1,5 @@
 -- A QSO of a text is still one when it is normalised; and normalised again it is the same QSO, place by place. Assumes nothing.
+use Rattle.std.specs.Prelude.{Option, Some, None}
 use mathlib.Core.Path.{◌≡◌, refl, sym, ap, ◌∙◌}
 use mathlib.Core.Bool.{Bool, true, false}
 use mathlib.Core.List.{List, [], ◌∷◌}
@@ -17,8 +18,6 @@ use Rattle.tables.specs.Table.{named}
 use Rattle.tables.specs.Bands.{bands, band_names, holds, band_for, band_named}
 use Rattle.tables.specs.Modes.{modes, mode_names}
 use Rattle.tables.specs.Place.{place, absent, in_text, in_capitals, band_entry, mode_entry, part, band_place, tidy, is_absent, is_empty, or_else}
-use Rattle.tables.specs.declared.Found.{Found}
-use Rattle.tables.specs.declared.Found.TheVariants.{At, Nothing}
 use Rattle.tables.specs.declared.Place.{Place}
 use Rattle.tables.proofs.Tested.{all}
 use Rattle.normalize.specs.Modes.{submodes, aliases}
@@ -150,9 +149,9 @@ module _ (text : List ℕ) where
   unfolding aliases mode_names modes
   aliases_listed = refl
 
-  at_sound : (ns : List ℕ) → all listed ns ≡ true → (f : Found) → Sound (entry_at ns f)
-  at_sound ns a (At k) = entry_sound (get_or ns k 0) (got listed ns a first_listed k)
-  at_sound ns a Nothing = absent_sound
+  at_sound : (ns : List ℕ) → all listed ns ≡ true → (f : Option ℕ) → Sound (entry_at ns f)
+  at_sound ns a (Some k) = entry_sound (get_or ns k 0) (got listed ns a first_listed k)
+  at_sound ns a None = absent_sound
 
   parent_sound : (x : List ℕ) → Sound (parent_entry x)
   unfolding parent_entry
@@ -185,21 +184,21 @@ module _ (text : List ℕ) where
   no_place_fit : is_fit text absent ≡ true
   no_place_fit = absent_sound.0
 
-  held_in : (hz k : ℕ) → band_for hz ≡ At k → k < length band_names
+  held_in : (hz k : ℕ) → band_for hz ≡ Some k → k < length band_names
   unfolding band_for band_names bands
   held_in hz k e = (found_within (holds hz) 0 k bands e).1
 
-  named_in : (x : List ℕ) (k : ℕ) → band_named x ≡ At k → k < length band_names
+  named_in : (x : List ℕ) (k : ℕ) → band_named x ≡ Some k → k < length band_names
   unfolding band_named named band_names bands
   named_in x k e = (found_within (same_raised (trimmed x)) 0 k band_names e).1
 
-  held_fit : (hz : ℕ) (f : Found) → band_for hz ≡ f → is_fit text (band_place f) ≡ true
-  held_fit hz (At k) e = band_fit k (held_in hz k e)
-  held_fit hz Nothing e = no_place_fit
+  held_fit : (hz : ℕ) (f : Option ℕ) → band_for hz ≡ f → is_fit text (band_place f) ≡ true
+  held_fit hz (Some k) e = band_fit k (held_in hz k e)
+  held_fit hz None e = no_place_fit
 
-  known_fit : (x : List ℕ) (f : Found) → band_named x ≡ f → is_fit text (band_place f) ≡ true
-  known_fit x (At k) e = band_fit k (named_in x k e)
-  known_fit x Nothing e = no_place_fit
+  known_fit : (x : List ℕ) (f : Option ℕ) → band_named x ≡ f → is_fit text (band_place f) ≡ true
+  known_fit x (Some k) e = band_fit k (named_in x k e)
+  known_fit x None e = no_place_fit
 
   pick_fit : (t : Bool) (p q : Place) → is_fit text p ≡ true → is_fit text q ≡ true → is_fit text (pick t p q) ≡ true
   pick_fit true p q a b = a
@@ -345,9 +344,9 @@ data Entry : Place → Type 0 where
   none : Entry absent
   entry : (k : ℕ) → Entry (mode_entry k)
 
-entry_at_lem : (ns : List ℕ) (f : Found) → Entry (entry_at ns f)
-entry_at_lem ns (At k) = entry (get_or ns k 0)
-entry_at_lem ns Nothing = none
+entry_at_lem : (ns : List ℕ) (f : Option ℕ) → Entry (entry_at ns f)
+entry_at_lem ns (Some k) = entry (get_or ns k 0)
+entry_at_lem ns None = none
 
 is_parent : (x : List ℕ) → Entry (parent_entry x)
 unfolding parent_entry
@@ -494,9 +493,9 @@ data Known : Place → Type 0 where
   unknown : Known absent
   known : (k : ℕ) → Known (band_entry k)
 
-known_place : (f : Found) → Known (band_place f)
-known_place (At k) = known k
-known_place Nothing = unknown
+known_place : (f : Option ℕ) → Known (band_place f)
+known_place (Some k) = known k
+known_place None = unknown
 
 known_pick : (t : Bool) (p q : Place) → Known p → Known q → Known (pick t p q)
 known_pick true p q a b = a

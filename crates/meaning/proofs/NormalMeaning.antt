@@ -1,8 +1,8 @@
 -- The places that normalising a QSO gives stand for the bytes that it should give. Assumes nothing.
+use Rattle.std.specs.Prelude.{Some, None, Option}
 use mathlib.Core.Path.{◌≡◌, refl, sym, ap, ◌∙◌}
 use mathlib.Core.Bool.{Bool, true, false}
 use mathlib.Core.List.{List, [], ◌∷◌}
-use mathlib.Core.Option.{Option, none, some}
 use Prim.Native.Nat.{ℕ, zero, suc}
 use native.Mathlib.Omega.{arith}
 use lib.Dec.{eqb, ltb}
@@ -20,8 +20,6 @@ use Rattle.tables.specs.Table.{named, entry}
 use Rattle.tables.specs.Bands.{bands, band_names, holds, band_for, band_named}
 use Rattle.tables.specs.Modes.{mode_names}
 use Rattle.tables.specs.Place.{place, absent, part, value, or_empty, bytes, or_else, band_place}
-use Rattle.tables.specs.declared.Found.{Found}
-use Rattle.tables.specs.declared.Found.TheVariants.{At, Nothing}
 use Rattle.tables.specs.declared.Place.{Place}
 use Rattle.tables.proofs.EntryLaws.{entry_in_lem, first_alike}
 use Rattle.normalize.specs.Normal.{otherwise, normal, normal_places, modal}
@@ -42,8 +40,8 @@ data Fitted : Place → Type 0 where
   gone : (a n : ℕ) → Fitted (place 0 a n)
   here : (a n : ℕ) → Fitted (place 1 a n)
   up : (a n : ℕ) → Fitted (place 2 a n)
-  band : (k n : ℕ) (y : List ℕ) → entry band_names k ≡ some y → Fitted (place 3 k n)
-  mode : (k n : ℕ) (y : List ℕ) → entry mode_names k ≡ some y → Fitted (place 4 k n)
+  band : (k n : ℕ) (y : List ℕ) → entry band_names k ≡ Some y → Fitted (place 3 k n)
+  mode : (k n : ℕ) (y : List ℕ) → entry mode_names k ≡ Some y → Fitted (place 4 k n)
 
 fitted_entry : (k a n : ℕ) → either (both (eqb k 3) (ltb a (length band_names))) (both (eqb k 4) (ltb a (length mode_names))) ≡ true → Fitted (place k a n)
 fitted_entry k a n e = by (eqb k 3) refl e
@@ -87,11 +85,11 @@ unfolding is_blank
 blank_capitals x = rw (trim_capitals x, length-map (trimmed x) raised) refl
 
 -- ---- a band that is found has a name
-named_found : (x : List ℕ) (k : ℕ) → band_named x ≡ At k → entry band_names k ≡ some (get_or band_names k [])
+named_found : (x : List ℕ) (k : ℕ) → band_named x ≡ Some k → entry band_names k ≡ Some (get_or band_names k [])
 unfolding band_named named band_names bands
 named_found x k e = entry_in_lem band_names k (found_within (same_raised (trimmed x)) 0 k band_names e).1
 
-held_found : (hz k : ℕ) → band_for hz ≡ At k → entry band_names k ≡ some (get_or band_names k [])
+held_found : (hz k : ℕ) → band_for hz ≡ Some k → entry band_names k ≡ Some (get_or band_names k [])
 unfolding band_for band_names bands
 held_found hz k e = entry_in_lem band_names k (found_within (holds hz) 0 k bands e).1
 
@@ -105,13 +103,13 @@ module _ (text : List ℕ) where
   blank_means _ (mode k n y e) = rw e (sym (foreign_not_blank y (mode_entry_lem k y e)))
 
   -- the entry that is found, or the place itself
-  found_or : (f : Found) (p : Place) (x : List ℕ) → value text p ≡ some x → ((k : ℕ) → f ≡ At k → entry band_names k ≡ some (get_or band_names k []))
-      → value text (or_else (band_place f) p) ≡ some (otherwise (band_name f) x)
+  found_or : (f : Option ℕ) (p : Place) (x : List ℕ) → value text p ≡ Some x → ((k : ℕ) → f ≡ Some k → entry band_names k ≡ Some (get_or band_names k []))
+      → value text (or_else (band_place f) p) ≡ Some (otherwise (band_name f) x)
   unfolding value
-  found_or (At k) p x e h = rw (h k refl) refl
-  found_or Nothing p x e h = e
+  found_or (Some k) p x e h = rw (h k refl) refl
+  found_or None p x e h = e
 
-  cased_means : (p : Place) → Fitted p → (x : List ℕ) → value text p ≡ some x → value text (or_else (known_band text p) p) ≡ some (otherwise (canonical x) x)
+  cased_means : (p : Place) → Fitted p → (x : List ℕ) → value text p ≡ Some x → value text (or_else (known_band text p) p) ≡ Some (otherwise (canonical x) x)
   unfolding known_band part value canonical
   cased_means _ (gone a n) x e = absurd (let z : ◌≡◌ {A = ℕ} 0 1 = cc in omega arith)
   cased_means _ (here a n) x e =
@@ -123,18 +121,18 @@ module _ (text : List ℕ) where
       rw (← w) (found_or (band_named x) (place 2 a n) x e (named_found x))
   cased_means _ (band k n y e) x q =
       let z : y ≡ x = cc in
-      rw no_band_lem (q ∙ ap some (sym (kept x (rw z at (settled_canonical y (band_entry_lem k y e))))))
+      rw no_band_lem (q ∙ ap Some (sym (kept x (rw z at (settled_canonical y (band_entry_lem k y e))))))
     where
-      kept : (x : List ℕ) → canonical x ≡ some x → otherwise (canonical x) x ≡ x
+      kept : (x : List ℕ) → canonical x ≡ Some x → otherwise (canonical x) x ≡ x
       kept x c = ap (λ (o : Option (List ℕ)). otherwise o x) c
   cased_means _ (mode k n y e) x q =
       let z : y ≡ x = cc in
-      rw no_band_lem (q ∙ ap some (sym (kept x (rw z at (foreign_canonical y (mode_entry_lem k y e))))))
+      rw no_band_lem (q ∙ ap Some (sym (kept x (rw z at (foreign_canonical y (mode_entry_lem k y e))))))
     where
-      kept : (x : List ℕ) → canonical x ≡ none → otherwise (canonical x) x ≡ x
+      kept : (x : List ℕ) → canonical x ≡ None → otherwise (canonical x) x ≡ x
       kept x c = ap (λ (o : Option (List ℕ)). otherwise o x) c
 
-  has_value_lem : (p : Place) → Fitted p → blank text p ≡ false → value text p ≡ some (bytes text p)
+  has_value_lem : (p : Place) → Fitted p → blank text p ≡ false → value text p ≡ Some (bytes text p)
   unfolding blank value
   has_value_lem _ (gone a n) h = absurd (let z : ◌≡◌ {A = ℕ} 0 1 = cc in omega arith)
   has_value_lem _ (here a n) h = refl
@@ -142,17 +140,17 @@ module _ (text : List ℕ) where
   has_value_lem _ (band k n y e) h = rw e refl
   has_value_lem _ (mode k n y e) h = rw e refl
 
-  found_or_bytes : (f : Found) (p : Place) → ((k : ℕ) → f ≡ At k → entry band_names k ≡ some (get_or band_names k []))
+  found_or_bytes : (f : Option ℕ) (p : Place) → ((k : ℕ) → f ≡ Some k → entry band_names k ≡ Some (get_or band_names k []))
       → bytes text (or_else (band_place f) p) ≡ otherwise (band_name f) (bytes text p)
   unfolding value
-  found_or_bytes (At k) p h = rw (h k refl) refl
-  found_or_bytes Nothing p h = refl
+  found_or_bytes (Some k) p h = rw (h k refl) refl
+  found_or_bytes None p h = refl
 
   derived_bytes : (p : Place) (f : Frequency) → bytes text (or_else (band_at f) p) ≡ otherwise (band_of (hertz f)) (bytes text p)
   unfolding band_at
   derived_bytes p f = by (is_yes f.given)
     where
-      by : (t : Bool) → bytes text (or_else (pick t (band_place (band_for f.hz)) absent) p) ≡ otherwise (band_of (pick t (some f.hz) none)) (bytes text p)
+      by : (t : Bool) → bytes text (or_else (pick t (band_place (band_for f.hz)) absent) p) ≡ otherwise (band_of (pick t (Some f.hz) None)) (bytes text p)
       by true = found_or_bytes (band_for f.hz) p (held_found f.hz)
       by false = refl
 
@@ -177,11 +175,11 @@ module _ (text : List ℕ) where
   unfolding band_at value
   derived_absent a n f = by (is_yes f.given)
     where
-      found : (o : Found) → value text (or_else (band_place o) (place 0 a n)) ≡ band_name o
-      found (At k) = refl
-      found Nothing = refl
+      found : (o : Option ℕ) → value text (or_else (band_place o) (place 0 a n)) ≡ band_name o
+      found (Some k) = refl
+      found None = refl
 
-      by : (t : Bool) → value text (or_else (pick t (band_place (band_for f.hz)) absent) (place 0 a n)) ≡ band_of (pick t (some f.hz) none)
+      by : (t : Bool) → value text (or_else (pick t (band_place (band_for f.hz)) absent) (place 0 a n)) ≡ band_of (pick t (Some f.hz) None)
       by true = found (band_for f.hz)
       by false = refl
 

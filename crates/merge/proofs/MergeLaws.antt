@@ -10,9 +10,8 @@ use lib.ListN.{length, get_or, drop, length-append, drop_of_length-le}
 use lib.Seq.{drop-cons}
 use Rattle.adif.specs.Grammar.{Field}
 use Rattle.output.specs.Put.{Put, Room}
-use Rattle.output.proofs.PutLaws.{put_length}
 use Rattle.fields.specs.Written.{fields_text, record_text, end_of_record}
-use Rattle.fields.proofs.FieldLaws.{Left, left_start, left_length, left_on, left_room, left_end}
+use Rattle.fields.proofs.FieldLaws.{Left, left_start, left_on, left_room, left_end}
 use Rattle.headers.specs.Answer.{capped, capped_after}
 use Rattle.headers.proofs.SizeLaws.{after}
 use Rattle.cells.specs.Cells.{column_order, cell_fields, is_dropped}
@@ -109,10 +108,6 @@ module _ (text : List ℕ) (cells : List Cell) (t : List ℕ) (count : ℕ) wher
 
       pub merge_end : (r : ℕ) (out : List ℕ) → Put r mid out q end_of_record → Put r was out 0 (merged_text text cells t count)
       merge_end r out v = left_end was out r _ (left_on was mid q end_of_record [] _ r out v then_all)
-
-pub merge_same : (was now : List ℕ) (at : ℕ) (left whole : List ℕ) → Left was now at left whole → (q : ℕ) (mid a : List ℕ) → Put q now mid at a → (r : ℕ) (out b : List ℕ) → Put r mid out q b
-    → length out ≡ length was
-merge_same was now at left whole l q mid a p r out b s = put_length r mid out q b s ∙ put_length q now mid at a p ∙ left_length was now at left whole l
 
 -- ---- measured
 two_parts : (a w : List ℕ) (size rows : ℕ) → rows ≡ capped_after size a → capped (rows + length w) ≡ capped_after size (a ++ w)

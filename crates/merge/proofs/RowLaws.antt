@@ -12,7 +12,6 @@ use borrow.Author.Tests.{leb-false}
 use Rattle.text.specs.Pick.{pick}
 use Rattle.letters.specs.Order.{order, order_raised}
 use Rattle.letters.specs.Same.{same, same_raised}
-use Rattle.letters.specs.declared.Order.{Order}
 use Rattle.adif.specs.Grammar.{Field}
 use Rattle.rowcheck.specs.Check.{Row, name_in, value_in, is_less}
 use Rattle.output.specs.Put.{Put, Room}
@@ -53,14 +52,6 @@ module _ (text t : List ℕ) where
       let z : i + 1 - a ≡ suc (i - a) = omega arith in
       let y : a + (i - a) ≡ i = omega arith in
       rw (z, e) (rw y at (snoc a (i - a)))
-
--- ---- the name of a row, and a name
-module _ (text : List ℕ) (row : Row) (s x : List ℕ) (es : s ≡ name_in text row) where
-  pub below_is : (o : Order) → o ≡ order_raised s x → (r : Bool) → r ≡ is_less o → r ≡ is_less (order_raised (name_in text row) x)
-  below_is o eo r er = rw (er, eo, es) refl
-
-  pub same_is : (r : Bool) → r ≡ same_raised s x → r ≡ same_raised (name_in text row) x
-  same_is r er = rw (er, es) refl
 
 -- ---- the field of a row
 module _ (text : List ℕ) (row : Row) (name value : List ℕ) (en : name ≡ name_in text row) (ev : value ≡ value_in text row) where
@@ -138,16 +129,18 @@ module _ (text t : List ℕ) (first count k i : ℕ) (a : first ≤ i) (h : i < 
           let y : same (row_field text row).name (name_at k) ≡ false = alike ∙ f in
           record { rises = a; inside = omega arith; ends = omega arith; lower = under; upper = c.1 ∙ rw (rest, stops, y) refl }
 
-pub cut_end : (text t : List ℕ) (first count k i : ℕ) → first ≤ i → i ≤ count → count ≤ i → Cutting text t first count k i
-    → Cuts text t first count k (record { below = i; above = i })
+pub cut_end : (text t : List ℕ) (first count k i : ℕ) → first ≤ count → i ≤ count → count ≤ i → Cutting text t first count k i
+    → Cuts text t first count k (record { below = count; above = count })
 unfolding Cutting
-cut_end text t first count k i a b h c = record {
-  rises = a;
-  inside = b;
-  ends = b;
-  lower = c.0 ∙ rw (none_between text t i count h, append-nil) refl;
-  upper = c.1 ∙ rw (none_between text t i count h) refl;
-}
+cut_end text t first count k i a b h c =
+    let e : i ≡ count = omega arith in
+    record {
+      rises = a;
+      inside = omega arith;
+      ends = omega arith;
+      lower = c.0 ∙ rw (none_between text t i count h, append-nil) (ap (fields_between text t first) e);
+      upper = c.1 ∙ rw (none_between text t i count h, none_between text t count count (omega arith)) refl;
+    }
 
 -- ---- put
 -- what is left to put, where all of it went to `from`
@@ -158,7 +151,7 @@ pub rest_start : (l : List ℕ) (at : ℕ) (w : List ℕ) → Rest l l at at w w
 unfolding Rest
 rest_start l at w = (refl, refl)
 
-pub rest_length : (was now : List ℕ) (from at : ℕ) (rest all : List ℕ) → Rest was now from at rest all → length now ≡ length was
+rest_length : (was now : List ℕ) (from at : ℕ) (rest all : List ℕ) → Rest was now from at rest all → length now ≡ length was
 unfolding Rest
 rest_length was now from at rest all p = sym (length-sets now at rest) ∙ ap length p.1 ∙ length-sets was from all
 

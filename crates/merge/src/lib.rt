@@ -1,8 +1,9 @@
 // The fields of a QSO's columns and of its extra rows in one: both rise by their names, so that one pass merges them. The text is measured
 // by one pass, and put by another.
+// Kept: two passes and no common one. What is measured is capped and needs no room; what is put needs room for all of it.
 #![tactic(auto)]
 
-ghost use Rattle.std.specs.Prelude.{◌≡◌, ◌*◌, ◌≤◌, length, take};
+ghost use Rattle.std.specs.Prelude.{◌≡◌, ◌*◌, ◌≤◌, length};
 ghost use Rattle.letters.specs.Order.{order_raised};
 ghost use Rattle.letters.specs.Same.{same_raised};
 ghost use Rattle.rowcheck.specs.Check.{is_less, name_in};
@@ -21,43 +22,41 @@ pub struct Cut {
     above: usize,
 }
 
-fn is_below(text: &[u8], row: [u32; 5], name: [u8; 12], n: usize) -> bool
-    requires { n ≤ 12 }
-    ensures { result ≡ is_less (order_raised (name_in text.now row) (take n name)) }
+fn is_below(text: &[u8], row: [u32; 5], name: &[u8]) -> bool
+    ensures { result ≡ is_less (order_raised (name_in text.now row) name.now) }
 {
-    let order = letters::order_raised(rowcheck::name_of(text, row), &name[..n]);
-    rowcheck::is_less(order)
+    rowcheck::is_less(letters::order_raised(rowcheck::name_of(text, row), name))
 }
 
-fn is_same(text: &[u8], row: [u32; 5], name: [u8; 12], n: usize) -> bool
-    requires { n ≤ 12 }
-    ensures { result ≡ same_raised (name_in text.now row) (take n name) }
+fn is_same(text: &[u8], row: [u32; 5], name: &[u8]) -> bool
+    ensures { result ≡ same_raised (name_in text.now row) name.now }
 {
-    letters::same_raised(rowcheck::name_of(text, row), &name[..n])
+    letters::same_raised(rowcheck::name_of(text, row), name)
 }
 
 fn cut_at(text: &[u8], table: &[u32], first: usize, count: usize, k: usize) -> Cut
     requires { (first ≤ count) × (count * 5 ≤ length table.now) }
     ensures { Cuts text.now table.now first count k result }
 {
-    let name = cellfields::column_name(k);
-    let bytes = name.bytes;
-    let n = name.len;
-    let mut i = first;
-    while i < count {
+    let column = cellfields::column_name(k);
+    let name = &column.bytes[..column.len];
+    for i in first..count {
         let row = writer::row_at(table, i);
-        if !is_below(text, row, bytes, n) {
-            if is_same(text, row, bytes, n) {
-                return Cut {
-                    below: i,
-                    above: i + 1,
-                };
-            }
-            return Cut { below: i, above: i };
+        if is_below(text, row, name) {
+            continue;
         }
-        i += 1;
+        if is_same(text, row, name) {
+            return Cut {
+                below: i,
+                above: i + 1,
+            };
+        }
+        return Cut { below: i, above: i };
     }
-    Cut { below: i, above: i }
+    Cut {
+        below: count,
+        above: count,
+    }
 }
 
 // ---- measured
@@ -76,11 +75,9 @@ fn rows_size(size: usize, text: &[u8], table: &[u32], first: usize, end: usize) 
     ensures upper_bound { result ≤ 16777217 }
 {
     let mut all = size;
-    let mut i = first;
-    while i < end {
+    for i in first..end {
         let row = writer::row_at(table, i);
         all = headers::cap(all + row_size(text, row));
-        i += 1;
     }
     all
 }
@@ -92,18 +89,14 @@ pub fn merged_size(text: &[u8], cells: [Cell; 13], table: &[u32], count: usize) 
 {
     let mut size = 0;
     let mut first = 0;
-    let mut k = 0;
-    while k < 13 {
-        let cell = cells[k];
+    for (k, &cell) in cells.iter().enumerate() {
         if cells::is_dropped(cell) {
-            k += 1;
             continue;
         }
         let cut = cut_at(text, table, first, count, k);
         let rows = rows_size(size, text, table, first, cut.below);
         size = headers::cap(rows + cellfields::field_size(text, k, cell));
         first = cut.above;
-        k += 1;
     }
     let rest = rows_size(size, text, table, first, count);
     headers::cap(rest + 6)
@@ -134,11 +127,8 @@ fn put_rows(
     ensures { Put result out.old out.new at (fields_text (fields_between text.now table.now first end)) }
 {
     let mut to = at;
-    let mut i = first;
-    while i < end {
-        let row = writer::row_at(table, i);
-        to = put_row(out, to, text, row);
-        i += 1;
+    for i in first..end {
+        to = put_row(out, to, text, writer::row_at(table, i));
     }
     to
 }
@@ -155,18 +145,14 @@ pub fn put_merged(
 {
     let mut at = 0;
     let mut first = 0;
-    let mut k = 0;
-    while k < 13 {
-        let cell = cells[k];
+    for (k, &cell) in cells.iter().enumerate() {
         if cells::is_dropped(cell) {
-            k += 1;
             continue;
         }
         let cut = cut_at(text, table, first, count, k);
         let rows = put_rows(out, at, text, table, first, cut.below);
         at = cellfields::put_field(out, rows, text, k, cell);
         first = cut.above;
-        k += 1;
     }
     let rest = put_rows(out, at, text, table, first, count);
     output::put_bytes(out, rest, b"<EOR>\n")

@@ -1,14 +1,12 @@
 -- Digits at the front of a text, as a loop passes them. Assumes nothing.
 use mathlib.Core.Path.{◌≡◌, refl, sym, ap, ◌∙◌}
-use mathlib.Core.Bool.{Bool, true, false, true≢false}
+use mathlib.Core.Bool.{Bool, true, false}
 use mathlib.Core.List.{List, [], ◌∷◌}
 use Prim.Native.Nat.{ℕ, ◌+◌, ◌≤◌, ◌<◌}
 use native.Mathlib.Numerals.{add-one}
 use native.Mathlib.Omega.{arith}
 use lib.ListN.{length, drop, get_or, drop_of_length-le}
 use lib.Seq.{drop-cons}
-use lib.Dec.{T, leb, leb→le}
-use Rattle.text.specs.Pick.{both}
 use Rattle.mhz.specs.Digits.{is_digit, digits_of, after_digits}
 use Rattle.mhz.specs.Steps.{held, grown}
 
@@ -29,13 +27,6 @@ module _ (s : List ℕ) (i : ℕ) (h : i < length s) where
 
     no_after : x ≡ false → after_digits (drop i s) ≡ drop i s
     no_after t = rw (opened, sym e ∙ t)
-
-pub digit_low : (b : ℕ) (x : Bool) → x ≡ is_digit b → x ≡ true → 0x30 ≤ b
-digit_low b x e t = low (leb 0x30 b) (leb b 0x39) (leb→le 0x30 b) (sym e ∙ t)
-  where
-    low : (p q : Bool) {A : Type 0} → (T p → A) → both p q ≡ true → A
-    low true q f t = f tt
-    low false q f t = absurd (true≢false (sym t))
 
 -- ---- what a run from `from` has come to at `at`: what is left gives the same answer
 unfoldable pub Reads : List ℕ → ℕ → ℕ → ℕ → ℕ → ℕ → Type 0
@@ -73,10 +64,6 @@ module _ (s : List ℕ) (from most n at h : ℕ) (r : Reads s from most n at h) 
   unfolding Reads
   stop_after a = sym a ∙ r.2
 
-  pub reads_first : from ≤ at
-  unfolding Reads
-  reads_first = r.0
-
   -- at no digit
   module _ (x : Bool) (l : at < length s) (e : x ≡ is_digit (get_or s at 0)) (t : x ≡ false) where
     pub here_place : at ≡ from + length (digits_of (drop from s))
@@ -90,11 +77,15 @@ module _ (s : List ℕ) (from most n at h : ℕ) (r : Reads s from most n at h) 
 
   -- at the end of the text
   module _ (l : length s ≤ at) where
-    pub end_place : at ≡ from + length (digits_of (drop from s))
-    end_place = stop_place (rw (drop_of_length-le s l))
-
     pub end_held : h ≡ held most n (digits_of (drop from s))
     end_held = stop_held (rw (drop_of_length-le s l))
 
-    pub end_after : drop at s ≡ after_digits (drop from s)
-    end_after = stop_after (rw (drop_of_length-le s l))
+    module _ (u : at ≤ length s) where
+      there : length s ≡ at
+      there = omega arith
+
+      pub end_place : length s ≡ from + length (digits_of (drop from s))
+      end_place = there ∙ stop_place (rw (drop_of_length-le s l))
+
+      pub end_after : drop (length s) s ≡ after_digits (drop from s)
+      end_after = rw there (stop_after (rw (drop_of_length-le s l)))

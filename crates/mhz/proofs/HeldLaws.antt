@@ -1,4 +1,5 @@
 -- Digits held up to a bound give the same answer as the digits themselves. Assumes nothing.
+use Rattle.std.specs.Prelude.{Option, Some, None}
 use mathlib.Core.Path.{◌≡◌, refl, sym, ap, ◌∙◌}
 use mathlib.Core.Bool.{Bool, true, false}
 use mathlib.Core.Logic.{◌⊎◌, inl, inr}
@@ -18,7 +19,6 @@ use Rattle.mhz.specs.Steps.{grown, held, power_held, exponent_held}
 use Rattle.mhz.specs.declared.Hz.{Hz}
 use Rattle.mhz.specs.declared.Hz.TheVariants.{Absent}
 use Rattle.mhz.specs.declared.number.Power.{Power}
-use Rattle.mhz.specs.declared.number.Power.TheVariants.{Malformed, Ten}
 use Rattle.mhz.proofs.WindowLaws.{zero_digits, many_digits, far_exponent}
 
 -- h stands for n: it is n up to `most`, and above `most` both are
@@ -77,11 +77,11 @@ module _ (s : Bool) (fraction : ℕ) (minus : Bool) where
   ]
 
 -- ---- the exponent as it is held, and as the text says it
-abbrev Says : Power → Exponent → Type 0
-Says Malformed malformed = Unit
-Says Malformed (power m n) = ⊥
-Says (Ten m h) malformed = ⊥
-Says (Ten m h) (power k n) = (m ≡ k) × Alike 65535 h n
+abbrev Says : Option Power → Exponent → Type 0
+Says None malformed = Unit
+Says None (power m n) = ⊥
+Says (Some p) malformed = ⊥
+Says (Some p) (power k n) = (p.minus ≡ k) × Alike 65535 p.size n
 
 says : (ys : List ℕ) → Says (exponent_held ys) (exponent_of ys)
 unfolding power_held number_of
@@ -89,25 +89,24 @@ says [] = (refl, record { same = λ h. refl; more = λ h. h })
 says (b ∷ bs) = go (either (eqb b 0x65) (eqb b 0x45)) (all_digits (unsigned bs))
   where
     go : (x t : Bool)
-        → Says (pick x (pick t (Ten (negative bs) (held 65535 0 (digits_of (unsigned bs)))) Malformed) Malformed)
+        → Says (pick x (pick t (Some (record { minus = negative bs; size = held 65535 0 (digits_of (unsigned bs)) })) None) None)
         (pick x (pick t (power (negative bs) (number 0 (digits_of (unsigned bs)))) malformed) malformed)
     go true true = (refl, held_alike 65535 0 (digits_of (unsigned bs)))
     go true false = tt
     go false t = tt
 
-no_power : (s : Bool) (digits fraction : ℕ) (p : Power) (q : Exponent) → Says p q → p ≡ Malformed → Absent ≡ number_hertz (with_exponent s digits fraction q)
-no_power s digits fraction Malformed malformed t e = refl
-no_power s digits fraction Malformed (power m n) t e = absurd t
-no_power s digits fraction (Ten m h) q t e = absurd (let z : ◌≡◌ {A = ℕ} 0 1 = cc in omega arith)
+no_power : (s : Bool) (digits fraction : ℕ) (p : Option Power) (q : Exponent) → Says p q → p ≡ None → Absent ≡ number_hertz (with_exponent s digits fraction q)
+no_power s digits fraction None malformed t e = refl
+no_power s digits fraction None (power m n) t e = absurd t
+no_power s digits fraction (Some p) q t e = absurd (let z : ◌≡◌ {A = ℕ} 0 1 = cc in omega arith)
 
-is_power : (s : Bool) (digits fraction h n : ℕ) (minus : Bool) (p : Power) (q : Exponent) → Says p q → p ≡ Ten minus n → Alike 9007199254740992 h digits
-    → decimal_hertz s h fraction minus n ≡ number_hertz (with_exponent s digits fraction q)
-is_power s digits fraction h n minus Malformed q t e a = absurd (let z : ◌≡◌ {A = ℕ} 0 1 = cc in omega arith)
-is_power s digits fraction h n minus (Ten m k) malformed t e a = absurd t
-is_power s digits fraction h n minus (Ten m k) (power j i) t e a =
-    let en : n ≡ k = cc in
-    let em : minus ≡ j = cc t.0 in
-    rw (en, em) (same_digits s fraction j h digits k a ∙ same_exponent s fraction j digits k i t.1)
+is_power : (s : Bool) (digits fraction h : ℕ) (w : Power) (p : Option Power) (q : Exponent) → Says p q → p ≡ Some w → Alike 9007199254740992 h digits
+    → decimal_hertz s h fraction w.minus w.size ≡ number_hertz (with_exponent s digits fraction q)
+is_power s digits fraction h w None q t e a = absurd (let z : ◌≡◌ {A = ℕ} 0 1 = cc in omega arith)
+is_power s digits fraction h w (Some p) malformed t e a = absurd t
+is_power s digits fraction h w (Some p) (power j i) t e a =
+    let same : w ≡ p = cc in
+    rw (same, t.0) (same_digits s fraction j h digits p.size a ∙ same_exponent s fraction j digits p.size i t.1)
 
 -- ---- a decimal, by what its parts came to
 module _ (s : List ℕ) (start count : ℕ) (minus : Bool) (ec : count ≡ length (whole_part (drop start s)) + length (fraction_part (drop start s))) where
@@ -115,21 +114,21 @@ module _ (s : List ℕ) (start count : ℕ) (minus : Bool) (ec : count ≡ lengt
   unfolding decimal_of
   decimal_none z = rw (eq-eqb _ 0 (sym ec ∙ z))
 
-  module _ (at : ℕ) (p : Power) (some : count ≡ 0 → ⊥) (ea : drop at s ≡ after_decimal (drop start s)) (ep : p ≡ exponent_held (drop at s)) where
+  module _ (at : ℕ) (p : Option Power) (some : count ≡ 0 → ⊥) (ea : drop at s ≡ after_decimal (drop start s)) (ep : p ≡ exponent_held (drop at s)) where
     heard : Says p (exponent_of (after_decimal (drop start s)))
     heard = rw (ep, ea) (says (after_decimal (drop start s)))
 
     has_some : eqb (length (whole_part (drop start s)) + length (fraction_part (drop start s))) 0 ≡ false
     has_some = ne_eqb _ 0 (λ z. some (ec ∙ z))
 
-    pub decimal_malformed : p ≡ Malformed → Absent ≡ number_hertz (decimal_of minus (drop start s))
+    pub decimal_malformed : p ≡ None → Absent ≡ number_hertz (decimal_of minus (drop start s))
     unfolding decimal_of
     decimal_malformed e = rw has_some (no_power minus _ _ p (exponent_of (after_decimal (drop start s))) heard e)
 
-    pub decimal_is : (h fraction : ℕ) (down : Bool) (n : ℕ) (r : Hz) → p ≡ Ten down n → h ≡ held 9007199254740992 0 (whole_part (drop start s) ++ fraction_part (drop start s))
-        → fraction ≡ length (fraction_part (drop start s)) → r ≡ decimal_hertz minus h fraction down n → r ≡ number_hertz (decimal_of minus (drop start s))
+    pub decimal_is : (h fraction : ℕ) (w : Power) (r : Hz) → p ≡ Some w → h ≡ held 9007199254740992 0 (whole_part (drop start s) ++ fraction_part (drop start s))
+        → fraction ≡ length (fraction_part (drop start s)) → r ≡ decimal_hertz minus h fraction w.minus w.size → r ≡ number_hertz (decimal_of minus (drop start s))
     unfolding decimal_of number_of
-    decimal_is h fraction down n r e eh ef er =
+    decimal_is h fraction w r e eh ef er =
         er ∙ rw (has_some, ← ef)
-        (is_power minus _ fraction h n down p (exponent_of (after_decimal (drop start s))) heard e
+        (is_power minus _ fraction h w p (exponent_of (after_decimal (drop start s))) heard e
         (rw eh (held_alike 9007199254740992 0 (whole_part (drop start s) ++ fraction_part (drop start s)))))

@@ -1,4 +1,5 @@
 -- The parts of a number in a text, by their places. Assumes nothing.
+use Rattle.std.specs.Prelude.{Option, Some, None}
 use mathlib.Core.Path.{◌≡◌, refl, sym, ap, ◌∙◌}
 use mathlib.Core.Bool.{Bool, true, false, true≢false}
 use mathlib.Core.Logic.{inl, inr}
@@ -9,14 +10,13 @@ use native.Mathlib.Numerals.{add-one}
 use native.Mathlib.Omega.{arith}
 use borrow.Author.Tests.{eq-eqb, ne_eqb}
 use lib.ListN.{length, drop, get_or, length-drop, get_or-eq_default}
-use lib.Seq.{drop-drop, get_or-drop, drop-length, drop-cons}
+use lib.Seq.{drop-drop, get_or-drop, drop-cons}
 use lib.Dec.{eqb}
 use Rattle.text.specs.Pick.{pick, either}
 use Rattle.mhz.specs.Digits.{is_digit, digits_of, after_digits}
 use Rattle.mhz.specs.Number.{all_digits, pointed, whole_part, fraction_part, after_decimal, unsigned, negative}
 use Rattle.mhz.specs.Steps.{grown, held, power_held, exponent_held}
 use Rattle.mhz.specs.declared.number.Power.{Power}
-use Rattle.mhz.specs.declared.number.Power.TheVariants.{Malformed, Ten}
 
 -- ---- a step over a byte that is not 0 ends within the text
 step_fits : (s : List ℕ) (p k : ℕ) (t : Bool) → p ≤ length s → (t ≡ true → get_or s p 0 ≡ 0 → ⊥) → k ≡ pick t 1 0 → p + k ≤ length s
@@ -100,7 +100,7 @@ module _ (s : List ℕ) (start p b k e : ℕ) (q : drop p s ≡ after_digits (dr
 
 -- ---- the exponent
 module _ (s : List ℕ) (from at h : ℕ) (minus : Bool) (p : at ≡ from + length (digits_of (drop from s))) (q : drop at s ≡ after_digits (drop from s)) where
-  pub power_none : at ≡ from → Malformed ≡ power_held minus (drop from s)
+  pub power_none : at ≡ from → None ≡ power_held minus (drop from s)
   unfolding power_held all_digits
   power_none z = rw (eq-eqb (length (digits_of (drop from s))) 0 (omega arith))
 
@@ -108,32 +108,22 @@ module _ (s : List ℕ) (from at h : ℕ) (minus : Bool) (p : at ≡ from + leng
     is_some : eqb (length (digits_of (drop from s))) 0 ≡ false
     is_some = ne_eqb (length (digits_of (drop from s))) 0 (λ z. some (omega arith))
 
-    pub power_goes_on : (at ≡ length s → ⊥) → at ≤ length s → Malformed ≡ power_held minus (drop from s)
+    pub power_goes_on : (at ≡ length s → ⊥) → at ≤ length s → None ≡ power_held minus (drop from s)
     unfolding power_held all_digits
     power_goes_on n l =
         rw (is_some, ne_eqb (length (after_digits (drop from s))) 0 (λ z. n (omega (arith, length-drop at s, ap length q))))
 
-    pub power_is : at ≡ length s → h ≡ held 65535 0 (digits_of (drop from s)) → Ten minus h ≡ power_held minus (drop from s)
+    pub power_is : at ≡ length s → h ≡ held 65535 0 (digits_of (drop from s)) → Some (record { minus = minus; size = h }) ≡ power_held minus (drop from s)
     unfolding power_held all_digits
     power_is e g =
-        rw (is_some, eq-eqb (length (after_digits (drop from s))) 0 (omega (arith, length-drop at s, ap length q))) (ap (Ten minus) g)
-
-pub no_exponent : (s : List ℕ) (at : ℕ) → at ≡ length s → Ten false 0 ≡ exponent_held (drop at s)
-no_exponent s at e = rw (e, drop-length)
+        rw (is_some, eq-eqb (length (after_digits (drop from s))) 0 (omega (arith, length-drop at s, ap length q))) (ap (λ n. Some (record { minus = minus; size = n })) g)
 
 module _ (s : List ℕ) (at : ℕ) (x : Bool) (l : at ≤ length s) (n : at ≡ length s → ⊥) (e : x ≡ either (eqb (get_or s at 0) 0x65) (eqb (get_or s at 0) 0x45)) where
   opened : drop at s ≡ get_or s at 0 ∷ drop (at + 1) s
   opened = rw add-one (drop-cons s at 0 (omega arith))
 
-  pub exponent_malformed : x ≡ false → Malformed ≡ exponent_held (drop at s)
-  exponent_malformed t = rw (opened, sym e ∙ t)
-
-  pub exponent_is : (sign k : ℕ) (u : Bool) (r : Power) → x ≡ true → sign ≡ get_or s (at + 1) 0 → u ≡ either (eqb sign 0x2B) (eqb sign 0x2D) → k ≡ pick u 1 0
+  pub exponent_is : (sign k : ℕ) (u : Bool) (r : Option Power) → x ≡ true → sign ≡ get_or s (at + 1) 0 → u ≡ either (eqb sign 0x2B) (eqb sign 0x2D) → k ≡ pick u 1 0
       → r ≡ power_held (eqb sign 0x2D) (drop (at + 1 + k) s) → r ≡ exponent_held (drop at s)
   unfolding negative unsigned
   exponent_is sign k u r t g f j i =
       rw (opened, sym e ∙ t) (simp (get_or-drop, add-zero, ← g, ← f, ← j, drop-drop) i)
-
-pub sign_fits_after : (s : List ℕ) (at b k : ℕ) (t : Bool) → at ≤ length s → (at ≡ length s → ⊥) → b ≡ get_or s (at + 1) 0 → t ≡ either (eqb b 0x2B) (eqb b 0x2D)
-    → k ≡ pick t 1 0 → at + 1 + k ≤ length s
-sign_fits_after s at b k t l n e g f = sign_fits s (at + 1) b k (omega arith) e t g f

@@ -1,4 +1,5 @@
 -- A frequency of up to 10 ^ 12 Hz, written as megahertz, is read back as itself. Assumes nothing.
+use Rattle.std.specs.Prelude.{Ok}
 use mathlib.Core.Path.{◌≡◌, refl, sym, ap, ◌∙◌, subst}
 use mathlib.Core.Bool.{Bool, true, false}
 use mathlib.Core.List.{List, [], ◌∷◌, ◌++◌, append-nil, append_assoc, reverse, reverse-append}
@@ -24,7 +25,6 @@ use Rattle.mhz.specs.Reading.{up, down, near, in_window, hertz_of, decimal_hertz
 use Rattle.mhz.specs.Writing.{six_decimals, mhz_text, formatted, answer_to}
 use Rattle.mhz.specs.Theorems.{ReadBack, Carried}
 use Rattle.mhz.specs.declared.Hz.TheVariants.{Is}
-use Rattle.mhz.specs.declared.Wrote.TheVariants.{End}
 use Rattle.mhz.proofs.Formatted.{formatted_is}
 use Rattle.mhz.proofs.TextLaws.{below_words}
 use Rattle.mhz.proofs.WriteLaws.{length_last, last_digits_lem}
@@ -199,12 +199,12 @@ module _ (hz at : ℕ) (was : List ℕ) (room : at + length (mhz_text hz) ≤ le
       rw (sets-eq (mhz_text hz) was at room, append_assoc (take at was) (mhz_text hz) behind, drop_at (take at was) (mhz_text hz ++ behind) at (length-take-le at was (omega arith)))
       (take_at (mhz_text hz) behind (length (mhz_text hz)) refl)
 
-  has_room : hz < 8589934592000000 → answer_to hz at was ≡ End (at + length (mhz_text hz))
+  has_room : hz < 8589934592000000 → answer_to hz at was ≡ Ok (at + length (mhz_text hz))
   unfolding answer_to
   has_room low = rw (lt-leb 8589934592000000 hz low, le-leb (at + length (mhz_text hz)) (length was) room) refl
 
 pub carried : Carried
 carried hz at was now wrote read h room w r =
-    let fits : answer_to hz at was ≡ End (at + length (mhz_text hz)) = has_room hz at was room (lt_of_le_of_lt h (lit< tt)) in
+    let fits : answer_to hz at was ≡ Ok (at + length (mhz_text hz)) = has_room hz at was room (lt_of_le_of_lt h (lit< tt)) in
     let there : now ≡ sets was at (mhz_text hz) = w.output ∙ rw fits refl in
     (w.answer ∙ fits, r ∙ ap read_hertz (rw there (set_there hz at was room)) ∙ read_back_lem hz h)

@@ -25,22 +25,15 @@ use Rattle.mhz.specs.declared.Hz.{Hz}
 use Rattle.mhz.specs.declared.Hz.TheVariants.{Absent, Is}
 
 -- ---- what the words say
-module _ (s a b x y : Bool) (xs : List ℕ)
-    (ea : a ≡ same_raised xs (0x49 ∷ 0x4E ∷ 0x46 ∷ []))
-    (eb : b ≡ same_raised xs (0x49 ∷ 0x4E ∷ 0x46 ∷ 0x49 ∷ 0x4E ∷ 0x49 ∷ 0x54 ∷ 0x59 ∷ []))
-    (ex : x ≡ either a b) where
-  is_infinity_lem : x ≡ is_infinity xs
-  unfolding is_infinity
-  is_infinity_lem = cc
-
+module _ (s x y : Bool) (xs : List ℕ) (ex : x ≡ is_infinity xs) where
   module _ (t : x ≡ true) where
     pub minus_infinity : s ≡ true → Absent ≡ word_hertz s xs
     unfolding word_hertz hertz_of below_zero lt
-    minus_infinity e = rw (← is_infinity_lem, t, e)
+    minus_infinity e = rw (← ex, t, e)
 
     pub plus_infinity : s ≡ false → Is 18446744073709551615 ≡ word_hertz s xs
     unfolding word_hertz hertz_of below_zero lt to_hz mul rounded
-    plus_infinity e = rw (← is_infinity_lem, t, e)
+    plus_infinity e = rw (← ex, t, e)
 
   module _ (t : x ≡ false) (ey : y ≡ same_raised xs (0x4E ∷ 0x41 ∷ 0x4E ∷ [])) where
     is_nan_lem : y ≡ is_nan xs
@@ -49,11 +42,11 @@ module _ (s a b x y : Bool) (xs : List ℕ)
 
     pub word_nan : y ≡ true → Is 0 ≡ word_hertz s xs
     unfolding word_hertz hertz_of below_zero lt to_hz mul rounded
-    word_nan e = rw (← is_infinity_lem, t, ← is_nan_lem, e)
+    word_nan e = rw (← ex, t, ← is_nan_lem, e)
 
     pub no_word : y ≡ false → Absent ≡ word_hertz s xs
     unfolding word_hertz
-    no_word e = rw (← is_infinity_lem, t, ← is_nan_lem, e)
+    no_word e = rw (← ex, t, ← is_nan_lem, e)
 
 -- ---- no decimal begins above the digits
 no_digit : (b : ℕ) → 0x39 < b → is_digit b ≡ false

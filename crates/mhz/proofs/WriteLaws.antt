@@ -1,9 +1,10 @@
 -- Megahertz written into a lent output. Assumes nothing.
+use Rattle.std.specs.Prelude.{Ok, Err}
+use Rattle.refusals.specs.declared.Refusal.TheVariants.{FrequencyTooHigh}
+use Rattle.refusals.specs.declared.Refusal.TheVariants.{ShortOutput}
 use mathlib.Core.Path.{◌≡◌, refl, sym, ap, ◌∙◌}
 use mathlib.Core.List.{List, [], ◌∷◌, ◌++◌}
 use Prim.Native.Nat.{ℕ, zero, suc, ◌+◌, ◌-◌, ◌/◌, ◌%◌, ◌^◌, ◌≤◌, ◌<◌}
-use native.Mathlib.Nat.{not-suc-le-zero}
-use native.Mathlib.Numerals.{sub-one}
 use native.Mathlib.Omega.{arith}
 use lib.ListN.{length, set, length-append}
 use lib.Seq.{sets, set_comm}
@@ -17,7 +18,6 @@ use Rattle.output.proofs.DigitLaws.{short_digits}
 use Rattle.output.proofs.PutLaws.{put_then, room_first, room_next}
 use Rattle.mhz.specs.Digits.{last_digits}
 use Rattle.mhz.specs.Writing.{six_decimals, mhz_text, answer_to, Written}
-use Rattle.mhz.specs.declared.Wrote.TheVariants.{End, TooHigh, Short}
 
 -- ---- digits from the last on
 pub length_last : (k n : ℕ) → length (last_digits k n) ≡ k
@@ -42,24 +42,32 @@ sets_one l i (v ∷ vs) d = let e : i + suc (length vs) ≡ suc i + length vs = 
 unfoldable pub Left : List ℕ → List ℕ → ℕ → ℕ → ℕ → ℕ → ℕ → Type 0
 Left was now at i rest k n = sets now at (last_digits i rest) ≡ sets was at (last_digits k n)
 
-pub left_start : (l : List ℕ) (at k n : ℕ) → Left l l at k n k n
+pub left_start : (l : List ℕ) (at k n : ℕ) → Left l l at (k - 0) n k n
 unfolding Left
-left_start l at k n = refl
+left_start l at k n =
+    let e : k - 0 ≡ k = omega arith in
+    rw e
 
-pub left_on : (was now : List ℕ) (at i rest k n : ℕ) → 0 < i → Left was now at i rest k n → Left was (set now (at + (i - 1)) (0x30 + rest % 10)) at (i - 1) (rest / 10) k n
+left_next : (was now : List ℕ) (at j rest k n : ℕ) → Left was now at (suc j) rest k n → Left was (set now (at + j) (0x30 + rest % 10)) at j (rest / 10) k n
 unfolding Left
-left_on was now at zero rest k n h p = absurd (not-suc-le-zero h)
-left_on was now at (suc i) rest k n h p =
-    rw (sub-one (suc i))
-    (store_past now at (last_digits i (rest / 10)) (at + i) (0x30 + rest % 10) (omega (arith, length_last i (rest / 10)))
-    ∙ sym (ap (λ (j : ℕ). set (sets now at (last_digits i (rest / 10))) (at + j) (0x30 + rest % 10)) (length_last i (rest / 10)))
-    ∙ sym (sets_one now at (last_digits i (rest / 10)) (0x30 + rest % 10))
-    ∙ p)
+left_next was now at j rest k n p =
+    store_past now at (last_digits j (rest / 10)) (at + j) (0x30 + rest % 10) (omega (arith, length_last j (rest / 10)))
+    ∙ sym (ap (λ (i : ℕ). set (sets now at (last_digits j (rest / 10))) (at + i) (0x30 + rest % 10)) (length_last j (rest / 10)))
+    ∙ sym (sets_one now at (last_digits j (rest / 10)) (0x30 + rest % 10))
+    ∙ p
 
-pub left_end : (was now : List ℕ) (at i rest k n : ℕ) → i ≤ 0 → Left was now at i rest k n → Put (at + k) was now at (last_digits k n)
+pub left_on : (was now : List ℕ) (at i rest k n : ℕ) → i < k → Left was now at (k - i) rest k n
+    → Left was (set now (at + (k - i - 1)) (0x30 + rest % 10)) at (k - (i + 1)) (rest / 10) k n
+left_on was now at i rest k n h p =
+    let e : k - i ≡ suc (k - (i + 1)) = omega arith in
+    let f : k - i - 1 ≡ k - (i + 1) = omega arith in
+    rw f (left_next was now at (k - (i + 1)) rest k n (rw e at p))
+
+pub left_end : (was now : List ℕ) (at i rest k n : ℕ) → k ≤ i → Left was now at (k - i) rest k n → Put (at + k) was now at (last_digits k n)
 unfolding Left Put
-left_end was now at zero rest k n h p = (ap (λ (j : ℕ). at + j) (sym (length_last k n)), p)
-left_end was now at (suc i) rest k n h p = absurd (not-suc-le-zero h)
+left_end was now at i rest k n h p =
+    let e : k - i ≡ 0 = omega arith in
+    (ap (λ (j : ℕ). at + j) (sym (length_last k n)), rw e at p)
 
 pub room_last : (l : List ℕ) (at k n : ℕ) → Room l at (last_digits k n) → at + k ≤ length l
 unfolding Room
@@ -114,23 +122,23 @@ put_parts was a b now at p q r hz x y z =
 
 -- ---- the answer, and the output with it
 module _ (was : List ℕ) (hz at : ℕ) where
-  pub too_high : 8589934592000000 ≤ hz → Written TooHigh was was at hz
+  pub too_high : 8589934592000000 ≤ hz → Written (Err FrequencyTooHigh) was was at hz
   unfolding answer_to
   too_high h = record { answer = rw (le-leb 8589934592000000 hz h); output = rw (le-leb 8589934592000000 hz h) }
 
   module _ (low : hz < 8589934592000000) where
-    short : length was < at + length (mhz_text hz) → Written Short was was at hz
+    short : length was < at + length (mhz_text hz) → Written (Err ShortOutput) was was at hz
     unfolding answer_to
     short h = record {
       answer = rw (lt-leb 8589934592000000 hz low, lt-leb (at + length (mhz_text hz)) (length was) h);
       output = rw (lt-leb 8589934592000000 hz low, lt-leb (at + length (mhz_text hz)) (length was) h);
     }
 
-    pub past_the_end : length was < at → Written Short was was at hz
+    pub past_the_end : length was < at → Written (Err ShortOutput) was was at hz
     past_the_end h = short (omega arith)
 
     module _ (k : ℕ) (within : at ≤ length was) (e : k ≡ length (mhz_text hz)) where
-      pub too_short : length was - at < k → Written Short was was at hz
+      pub too_short : length was - at < k → Written (Err ShortOutput) was was at hz
       too_short h = short (omega arith)
 
       module _ (fits : k ≤ length was - at) where
@@ -138,11 +146,11 @@ module _ (was : List ℕ) (hz at : ℕ) where
         unfolding Room
         has_room = omega arith
 
-        pub wrote : (r : ℕ) (now : List ℕ) → Put r was now at (mhz_text hz) → Written (End r) was now at hz
+        pub wrote : (r : ℕ) (now : List ℕ) → Put r was now at (mhz_text hz) → Written (Ok r) was now at hz
         unfolding answer_to Put
         wrote r now p =
             let l : at + length (mhz_text hz) ≤ length was = omega arith in
             record {
-              answer = rw (lt-leb 8589934592000000 hz low, le-leb (at + length (mhz_text hz)) (length was) l) (ap End p.0);
+              answer = rw (lt-leb 8589934592000000 hz low, le-leb (at + length (mhz_text hz)) (length was) l) (ap Ok p.0);
               output = rw (lt-leb 8589934592000000 hz low, le-leb (at + length (mhz_text hz)) (length was) l) p.1;
             }

@@ -1,5 +1,7 @@
 -- Worked examples: those of docs/SCOPE.md, and the edges of the grammar and of the window. A text is a list of ASCII codes.
-use Rattle.std.specs.Prelude.{◌≡◌, refl, true, false, [], ◌∷◌}
+use Rattle.refusals.specs.declared.Refusal.TheVariants.{FrequencyTooHigh}
+use Rattle.refusals.specs.declared.Refusal.TheVariants.{ShortOutput}
+use Rattle.std.specs.Prelude.{◌≡◌, refl, true, false, [], ◌∷◌, Ok, Err}
 use Rattle.std.specs.Float.Ieee.{round, mul, neg, lt}
 use Rattle.text.specs.Walk.{lead}
 use Rattle.text.specs.Space.{space1, space2, space3, space80, space_len, space_back, width, trim_start, trim_end, trimmed}
@@ -13,7 +15,6 @@ use Rattle.mhz.specs.Number.{none, not_a_number, infinity, decimal, negative, un
 use Rattle.mhz.specs.Reading.{up, down, near, in_window, hertz_of, decimal_hertz, number_hertz, read_hertz}
 use Rattle.mhz.specs.Writing.{six_decimals, mhz_text, answer_to}
 use Rattle.mhz.specs.declared.Hz.TheVariants.{Absent, Is, Outside}
-use Rattle.mhz.specs.declared.Wrote.TheVariants.{End, TooHigh, Short}
 
 -- ---- the grammar
 -- "+.5e-3": the digits 5, one of them after the point, times 10 ^ -3
@@ -80,7 +81,7 @@ unfolding six_decimals ten-digits digits
 written = (refl, refl)
 
 -- refused with 14 at the bound, with 13 where a byte is missing
-refused : (answer_to 8589934592000000 0 [] ≡ TooHigh) × (answer_to 5 1 (0 ∷ 0 ∷ 0 ∷ 0 ∷ 0 ∷ 0 ∷ 0 ∷ 0 ∷ []) ≡ Short) × (answer_to 5 0 (0 ∷ 0 ∷ 0 ∷ 0 ∷ 0 ∷ 0 ∷ 0 ∷ 0 ∷ []) ≡ End 8)
+refused : (answer_to 8589934592000000 0 [] ≡ Err FrequencyTooHigh) × (answer_to 5 1 (0 ∷ 0 ∷ 0 ∷ 0 ∷ 0 ∷ 0 ∷ 0 ∷ 0 ∷ []) ≡ Err ShortOutput) × (answer_to 5 0 (0 ∷ 0 ∷ 0 ∷ 0 ∷ 0 ∷ 0 ∷ 0 ∷ 0 ∷ []) ≡ Ok 8)
 unfolding answer_to six_decimals ten-digits digits
 refused = (refl, refl, refl)
 

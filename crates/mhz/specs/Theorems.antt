@@ -1,13 +1,12 @@
 -- What is proved of frequencies: a whole number of hertz up to 10 ^ 12, written as megahertz, is read as that number.
-use Rattle.std.specs.Prelude.{◌≡◌, List, ℕ, ◌+◌, ◌^◌, ◌≤◌, length, take, drop}
+use Rattle.refusals.specs.declared.Refusal.{Refusal}
+use Rattle.std.specs.Prelude.{◌≡◌, List, ℕ, ◌+◌, ◌^◌, ◌≤◌, length, take, drop, Result, Ok}
 use Rattle.mhz.specs.Reading.{read_hertz}
 use Rattle.mhz.specs.Writing.{mhz_text, Written}
 use Rattle.mhz.specs.declared.Hz.{Hz}
 use Rattle.mhz.specs.declared.Hz.TheVariants.{Is}
-use Rattle.mhz.specs.declared.Wrote.{Wrote}
-use Rattle.mhz.specs.declared.Wrote.TheVariants.{End}
 
--- so of the texts that `write` makes: of `mhzText`, and of `formatted`, which is the Rust's
+-- so of the texts that `write` makes: of `mhz_text`, and of `formatted`, which is the Rust's
 abbrev pub ReadBack : (ℕ → List ℕ) → Type 0
 ReadBack write = (hz : ℕ) → hz ≤ 10 ^ 12 → read_hertz (write hz) ≡ Is hz
 
@@ -15,6 +14,6 @@ ReadBack write = (hz : ℕ) → hz ≤ 10 ^ 12 → read_hertz (write hz) ≡ Is 
 -- `mhz_string_to_hz` gives hz
 abbrev pub Carried : Type 0
 Carried =
-    (hz at : ℕ) (was now : List ℕ) (wrote : Wrote) (read : Hz) → hz ≤ 10 ^ 12 → at + length (mhz_text hz) ≤ length was
+    (hz at : ℕ) (was now : List ℕ) (wrote : Result ℕ Refusal) (read : Hz) → hz ≤ 10 ^ 12 → at + length (mhz_text hz) ≤ length was
     → Written wrote was now at hz → read ≡ read_hertz (take (length (mhz_text hz)) (drop at now))
-    → (wrote ≡ End (at + length (mhz_text hz))) × (read ≡ Is hz)
+    → (wrote ≡ Ok (at + length (mhz_text hz))) × (read ≡ Is hz)

@@ -1,5 +1,8 @@
 -- Hertz written as megahertz.
-use Rattle.std.specs.Prelude.{◌≡◌, List, ◌∷◌, ◌++◌, ℕ, ◌+◌, ◌/◌, ◌%◌, pos, length, leb}
+use Rattle.refusals.specs.declared.Refusal.TheVariants.{FrequencyTooHigh}
+use Rattle.refusals.specs.declared.Refusal.TheVariants.{ShortOutput}
+use Rattle.refusals.specs.declared.Refusal.{Refusal}
+use Rattle.std.specs.Prelude.{◌≡◌, List, ◌∷◌, ◌++◌, ℕ, ◌+◌, ◌/◌, ◌%◌, pos, length, leb, Result, Ok, Err}
 use Rattle.std.proofs.lemmas.List.Edits.{sets}
 use Rattle.std.specs.Float.{binary64}
 use Rattle.std.specs.Float.Ieee.{div, of_int}
@@ -7,8 +10,6 @@ use Rattle.text.specs.Pick.{pick}
 use Rattle.decimal.specs.Digits.{decimal}
 use Rattle.hertz.specs.Whole.{million, millionths}
 use Rattle.mhz.specs.Digits.{last_digits}
-use Rattle.mhz.specs.declared.Wrote.{Wrote}
-use Rattle.mhz.specs.declared.Wrote.TheVariants.{End, TooHigh, Short}
 
 -- n millionths in decimal: the whole part, a point, six digits
 unfoldable pub six_decimals : ℕ → List ℕ
@@ -23,15 +24,14 @@ unfoldable pub formatted : ℕ → List ℕ
 formatted hz = six_decimals (millionths (div binary64 (of_int binary64 (pos hz)) million))
 
 -- the text written at `at` into the output `out`: refused with 14 from 8,589,934,592,000,000 Hz on, then with 13 where it does not fit
-unfoldable pub answer_to : ℕ → ℕ → List ℕ → Wrote
+unfoldable pub answer_to : ℕ → ℕ → List ℕ → Result ℕ Refusal
 answer_to hz at out =
-    pick (leb 8589934592000000 hz) TooHigh (pick (leb (at + length (mhz_text hz)) (length out)) (End (at + length (mhz_text hz))) Short)
+    pick (leb 8589934592000000 hz) (Err FrequencyTooHigh) (pick (leb (at + length (mhz_text hz)) (length out)) (Ok (at + length (mhz_text hz))) (Err ShortOutput))
 
-abbrev pub output_by : Wrote → ℕ → ℕ → List ℕ → List ℕ
-output_by (End next) hz at out = sets out at (mhz_text hz)
-output_by TooHigh hz at out = out
-output_by Short hz at out = out
+abbrev pub output_by : Result ℕ Refusal → ℕ → ℕ → List ℕ → List ℕ
+output_by (Ok next) hz at out = sets out at (mhz_text hz)
+output_by (Err why) hz at out = out
 
-pub record Written (r : Wrote) (was now : List ℕ) (at hz : ℕ) : Type 0 where
+pub record Written (r : Result ℕ Refusal) (was now : List ℕ) (at hz : ℕ) : Type 0 where
   pub answer : r ≡ answer_to hz at was
   pub output : now ≡ output_by (answer_to hz at was) hz at was

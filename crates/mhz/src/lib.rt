@@ -7,10 +7,13 @@ ghost use Rattle.mhz.specs.Reading.{read_hertz};
 ghost use Rattle.mhz.specs.Digits.{last_digits};
 ghost use Rattle.mhz.specs.Writing.{mhz_text, Written};
 
+use refusals::Refusal;
+
 mod number;
 mod window;
 
 // Not a number, or below zero; whole hertz; a number outside the exact window.
+// Kept: three answers, of which only `Outside` is refused, so neither an Option nor a Result.
 #[derive(Clone, Copy)]
 pub enum Hz {
     Absent,
@@ -18,19 +21,10 @@ pub enum Hz {
     Outside,
 }
 
-// The place after what was written; a frequency that is too high; an output that is too short.
-#[derive(Clone, Copy)]
-pub enum Wrote {
-    End(usize),
-    TooHigh,
-    Short,
-}
-
 pub fn mhz_string_to_hz(mhz: &[u8]) -> Hz
     ensures { result ≡ read_hertz mhz.now }
 {
-    let s = text::space::trim(mhz);
-    number::of_text(s)
+    number::of_text(text::space::trim(mhz))
 }
 
 // The last k digits of n, from the last on.
@@ -38,11 +32,9 @@ fn put_last(out: &mut [u8], at: usize, k: usize, n: u64) -> usize
     requires { Room out.old at (last_digits k n) }
     ensures { Put result out.old out.new at (last_digits k n) }
 {
-    let mut i = k;
     let mut rest = n;
-    while i > 0 {
-        i -= 1;
-        out[at + i] = b'0' + (rest % 10) as u8;
+    for i in 0..k {
+        out[at + (k - i - 1)] = b'0' + (rest % 10) as u8;
         rest /= 10;
     }
     at + k
@@ -64,17 +56,15 @@ pub fn put_mhz(out: &mut [u8], at: usize, hz: u64) -> usize
     put_last(out, rest, 6, hz % 1000000)
 }
 
-pub fn hz_to_mhz_string(hz: u64, out: &mut [u8], at: usize) -> Wrote
+// The place after what was written, or why nothing was: the frequency is too high, or the output too short.
+pub fn hz_to_mhz_string(hz: u64, out: &mut [u8], at: usize) -> Result<usize, Refusal>
     ensures { Written result out.old out.new at hz }
 {
     if hz >= 8589934592000000 {
-        return Wrote::TooHigh;
+        return Err(Refusal::FrequencyTooHigh);
     }
-    if at > out.len() {
-        return Wrote::Short;
+    if at > out.len() || out.len() - at < mhz_size(hz) {
+        return Err(Refusal::ShortOutput);
     }
-    if out.len() - at < mhz_size(hz) {
-        return Wrote::Short;
-    }
-    Wrote::End(put_mhz(out, at, hz))
+    Ok(put_mhz(out, at, hz))
 }

@@ -2,7 +2,7 @@
 ghost use Rattle.std.specs.Prelude.{◌≡◌, ◌+◌, ◌≤◌, ◌<◌, length, drop, eqb, ◌++◌};
 ghost use Rattle.text.specs.Pick.{pick, either};
 ghost use Rattle.mhz.specs.Digits.{is_digit, digits_of, after_digits};
-ghost use Rattle.mhz.specs.Number.{negative, whole_part, fraction_part, after_decimal, decimal_of, number_in};
+ghost use Rattle.mhz.specs.Number.{negative, whole_part, fraction_part, after_decimal, decimal_of, is_infinity, number_in};
 ghost use Rattle.mhz.specs.Reading.{number_hertz};
 ghost use Rattle.mhz.specs.Steps.{held, grown, power_held, exponent_held, word_hertz};
 
@@ -24,10 +24,11 @@ pub struct Mantissa {
     count: usize,
 }
 
+// Ten to the size, or to less the size where `minus`.
 #[derive(Clone, Copy)]
-pub enum Power {
-    Malformed,
-    Ten(bool, u64),
+pub struct Power {
+    minus: bool,
+    size: u64,
 }
 
 fn is_digit(b: u8) -> bool
@@ -36,19 +37,21 @@ fn is_digit(b: u8) -> bool
     text::inside(b, b'0', b'9')
 }
 
+// Kept beside `usize::from`: its promise is in the word of the specs, on which the laws of the texts rest.
 fn one_if(t: bool) -> usize
     ensures { result ≡ pick t 1 0 }
 {
-    if t { 1 } else { 0 }
+    usize::from(t)
 }
 
 // The digit b after those that are held.
+#[tactic(auto, unfolding(crate::specs::Steps::grown))]
 fn grow(most: u64, n: u64, b: u8) -> u64
     requires { (most ≤ 9007199254740992) × (0x30 ≤ b) }
     ensures { result ≡ grown most n b }
 {
     if n <= most {
-        n * 10 + (b - b'0') as u64
+        n * 10 + u64::from(b - b'0')
     } else {
         n
     }
@@ -61,18 +64,15 @@ fn digits_from(s: &[u8], from: usize, most: u64, n: u64) -> Run
     ensures held_value { result.held ≡ held most n (digits_of (drop from s.now)) }
     ensures from_le_at { (from ≤ result.at) × (result.at ≤ length s.now) }
 {
-    let mut at = from;
     let mut held = n;
-    while at < s.len() {
+    for at in from..s.len() {
         let b = s[at];
-        if is_digit(b) {
-            held = grow(most, held, b);
-            at += 1;
-        } else {
+        if !is_digit(b) {
             return Run { at, held };
         }
+        held = grow(most, held, b);
     }
-    Run { at, held }
+    Run { at: s.len(), held }
 }
 
 // Where there is no point the run after it is empty, since the run before it ended at no digit.
@@ -97,40 +97,49 @@ fn mantissa_from(s: &[u8], start: usize) -> Mantissa
     }
 }
 
-fn power_from(s: &[u8], from: usize, minus: bool) -> Power
+fn power_from(s: &[u8], from: usize, minus: bool) -> Option<Power>
     requires { from ≤ length s.now }
     ensures { result ≡ power_held minus (drop from s.now) }
 {
     let run = digits_from(s, from, 65535, 0);
-    if run.at == from {
-        return Power::Malformed;
+    if run.at == from || run.at != s.len() {
+        return None;
     }
-    if run.at != s.len() {
-        return Power::Malformed;
-    }
-    Power::Ten(minus, run.held)
+    Some(Power {
+        minus,
+        size: run.held,
+    })
 }
 
 fn is_sign(b: u8) -> bool
     ensures { result ≡ either (eqb b 0x2B) (eqb b 0x2D) }
 {
-    text::any(b == b'+', b == b'-')
+    b == b'+' || b == b'-'
 }
 
-fn exponent_at(s: &[u8], at: usize) -> Power
+fn opens_exponent(b: u8) -> bool
+    ensures { result ≡ either (eqb b 0x65) (eqb b 0x45) }
+{
+    b == b'e' || b == b'E'
+}
+
+fn exponent_at(s: &[u8], at: usize) -> Option<Power>
     requires { at ≤ length s.now }
     ensures { result ≡ exponent_held (drop at s.now) }
 {
     if at == s.len() {
-        return Power::Ten(false, 0);
+        return Some(Power {
+            minus: false,
+            size: 0,
+        });
     }
     let b = s[at];
-    if text::any(b == b'e', b == b'E') {
+    if opens_exponent(b) {
         let after = at + 1;
         let sign = text::byte(s, after);
         power_from(s, after + one_if(is_sign(sign)), sign == b'-')
     } else {
-        Power::Malformed
+        None
     }
 }
 
@@ -142,27 +151,29 @@ fn decimal(s: &[u8], start: usize, negative: bool) -> Hz
     if m.count == 0 {
         return Hz::Absent;
     }
-    let p = exponent_at(s, m.at);
-    match p {
-        Power::Malformed => Hz::Absent,
-        Power::Ten(minus, n) => window::of_decimal(negative, m.held, m.fraction, minus, n),
+    match exponent_at(s, m.at) {
+        None => Hz::Absent,
+        Some(p) => window::of_decimal(negative, m.held, m.fraction, p.minus, p.size),
     }
+}
+
+#[tactic(auto, unfolding(crate::specs::Number::is_infinity))]
+fn is_infinity(w: &[u8]) -> bool
+    ensures { result ≡ is_infinity w.now }
+{
+    letters::same_raised(w, b"INF") || letters::same_raised(w, b"INFINITY")
 }
 
 fn word(w: &[u8], negative: bool) -> Hz
     ensures { result ≡ word_hertz negative w.now }
 {
-    if text::any(
-        letters::same_raised(w, b"INF"),
-        letters::same_raised(w, b"INFINITY"),
-    ) {
-        return if negative {
+    if is_infinity(w) {
+        if negative {
             Hz::Absent
         } else {
-            Hz::Is(0xffff_ffff_ffff_ffff)
-        };
-    }
-    if letters::same_raised(w, b"NAN") {
+            Hz::Is(u64::MAX)
+        }
+    } else if letters::same_raised(w, b"NAN") {
         Hz::Is(0)
     } else {
         Hz::Absent

@@ -1,10 +1,9 @@
 -- Which QSOs are QSOs of a text, and what normalising one answers.
-use Rattle.std.specs.Prelude.{ℕ, ◌+◌, Bool, true, List, [], ◌∷◌, eqb, leb, ltb, length, replicate}
+use Rattle.std.specs.Prelude.{ℕ, ◌+◌, Bool, true, List, [], ◌∷◌, eqb, leb, ltb, length, replicate, Ok, Err}
 use Rattle.text.specs.Pick.{pick, both, either}
 use Rattle.text.specs.Utf8.{utf8}
 use Rattle.refusals.specs.declared.Refusal.{Refusal}
 use Rattle.refusals.specs.declared.Refusal.TheVariants.{TooLong, BadRow}
-use Rattle.refusals.specs.declared.Verdict.TheVariants.{Accepted, Refused}
 use Rattle.tables.specs.Bands.{band_names}
 use Rattle.tables.specs.Modes.{mode_names}
 use Rattle.tables.specs.Place.{absent, part, in_text, is_absent}
@@ -65,10 +64,10 @@ empty_qso = record { columns = no_columns; freq = no_frequency; freq_rx = no_fre
 
 -- ---- answers
 abbrev pub accepted : Qso → Answer
-accepted q = record { qso = q; verdict = Accepted }
+accepted q = record { qso = q; verdict = Ok tt }
 
 abbrev pub refused : Refusal → Qso → Answer
-refused why q = record { qso = q; verdict = Refused why }
+refused why q = record { qso = q; verdict = Err why }
 
 -- 1 for the text, then 11; a QSO that is refused comes back unchanged
 unfoldable pub normalized_to : List ℕ → Qso → Answer

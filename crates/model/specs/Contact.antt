@@ -1,6 +1,5 @@
 -- What a QSO over a text says: its columns, each absent or its bytes, its numbers, and the extra fields in order.
-use Rattle.std.specs.Prelude.{ℕ, zero, suc, Bool, true, false, List, ℤ, pos, negsuc, get_or}
-use Rattle.std.proofs.Math.Option.{Option, none, some}
+use Rattle.std.specs.Prelude.{ℕ, zero, suc, Bool, true, false, List, ℤ, pos, negsuc, get_or, Option, None, Some}
 use Rattle.text.specs.Pick.{pick}
 use Rattle.adif.specs.Grammar.{Field}
 use Rattle.tables.specs.Place.{absent, value, bytes}
@@ -41,7 +40,7 @@ column_text text q k = bytes text (place_of q k)
 
 -- a frequency in hertz
 abbrev pub hertz : Frequency → Option ℕ
-hertz f = pick (is_yes f.given) (some f.hz) none
+hertz f = pick (is_yes f.given) (Some f.hz) None
 
 -- a signed number by its size; there is no minus zero
 abbrev pub signed : Bool → ℕ → ℤ
@@ -50,7 +49,7 @@ signed true zero = pos 0
 signed true (suc n) = negsuc n
 
 abbrev pub entity : Dxcc → Option ℤ
-entity d = pick (is_yes d.given) (some (signed (is_yes d.negative) d.size)) none
+entity d = pick (is_yes d.given) (Some (signed (is_yes d.negative) d.size)) None
 
 unfoldable pub contact : List ℕ → Qso → List Field → Contact
 contact text q extra = record {

@@ -1,6 +1,5 @@
 -- Worked examples, over the text " 40M usb".
-use Rattle.std.specs.Prelude.{◌≡◌, refl, List, [], ℕ, negsuc, set}
-use Rattle.std.proofs.Math.Option.{some}
+use Rattle.std.specs.Prelude.{◌≡◌, refl, List, [], ℕ, negsuc, set, Ok, Some}
 use Rattle.text.specs.Ascii.{ascii}
 use Rattle.text.specs.Space.{space1, space2, space3, space80, space_len, space_back, width, trim_start, trim_end, trimmed}
 use Rattle.text.specs.Utf8.{char_len, long_char, second3, second4, valid_up_to, utf8}
@@ -8,7 +7,6 @@ use Rattle.text.specs.Walk.{lead}
 use Rattle.letters.specs.Capitals.{raised}
 use Rattle.letters.specs.Same.{same_raised}
 use Rattle.refusals.specs.declared.Refusal.TheVariants.{BadRow}
-use Rattle.refusals.specs.declared.Verdict.TheVariants.{Accepted}
 use Rattle.tables.specs.Table.{named}
 use Rattle.tables.specs.Bands.{bands, band_names, band_for, band_named}
 use Rattle.tables.specs.Modes.{modes, mode_names}
@@ -52,15 +50,15 @@ unfolding contact value band_names bands
 said = refl
 
 -- "FOO " stays; a blank band is derived; a blank band_rx is not
-unknown : normal_band (ascii "FOO ") (some 7_100_000) ≡ ascii "FOO "
+unknown : normal_band (ascii "FOO ") (Some 7_100_000) ≡ ascii "FOO "
 unfolding normal_band is_blank canonical band_named named band_names bands trimmed trim_start trim_end lead space_len space_back width space1 space2 space3 space80 same_raised raised
 unknown = refl
 
-derived : normal_band (ascii " ") (some 7_100_000) ≡ ascii "40m"
+derived : normal_band (ascii " ") (Some 7_100_000) ≡ ascii "40m"
 unfolding normal_band is_blank band_for band_names bands trimmed trim_start trim_end lead space_len space_back width space1 space2 space3 space80
 derived = refl
 
-not_derived : normal_band_rx (some (ascii " ")) (some 7_100_000) ≡ some (ascii " ")
+not_derived : normal_band_rx (Some (ascii " ")) (Some 7_100_000) ≡ Some (ascii " ")
 unfolding normal_band_rx canonical band_named named band_names bands trimmed trim_start trim_end lead space_len space_back width space1 space2 space3 space80 same_raised raised
 not_derived = refl
 
@@ -70,7 +68,7 @@ outside : normalized_to text (record { columns = set no_columns band (band_entry
 unfolding normalized_to is_qso is_flagged is_placed is_fit is_part is_entry band_names bands mode_names modes
 outside = refl
 
-minus_seven : entity (record { given = 1; negative = 1; size = 7 }) ≡ some (negsuc 6)
+minus_seven : entity (record { given = 1; negative = 1; size = 7 }) ≡ Some (negsuc 6)
 minus_seven = refl
 
 -- a flag that is neither 0 nor 1, each by itself: such a QSO comes back unchanged with 11, and no frequency is derived from it
@@ -82,7 +80,7 @@ flagged freq split given negative = record {
   dxcc = record { given = given; negative = negative; size = 0 };
 }
 
-flags_taken : (normalized_to text (flagged 0 0 0 1)).verdict ≡ Accepted
+flags_taken : (normalized_to text (flagged 0 0 0 1)).verdict ≡ Ok tt
 unfolding normalized_to is_qso is_flagged is_placed is_fit is_entry modal
 flags_taken = refl
 

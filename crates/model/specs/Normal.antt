@@ -1,13 +1,10 @@
 -- Normalising a contact: what comes out, as bytes and then as places.
-use Rattle.std.specs.Prelude.{ℕ, Bool, List, eqb, length, set}
-use Rattle.std.proofs.Math.Option.{Option, none, some}
+use Rattle.std.specs.Prelude.{ℕ, Bool, List, eqb, length, set, Some, None, Option}
 use Rattle.text.specs.Pick.{pick, both, either}
 use Rattle.text.specs.Space.{trimmed}
 use Rattle.tables.specs.Table.{entry}
 use Rattle.tables.specs.Bands.{band_names, band_for, band_named}
 use Rattle.tables.specs.Place.{absent, part, in_text, is_absent, or_else, band_place}
-use Rattle.tables.specs.declared.Found.{Found}
-use Rattle.tables.specs.declared.Found.TheVariants.{At, Nothing}
 use Rattle.tables.specs.declared.Place.{Place}
 use Rattle.normalize.specs.Normal.{otherwise, normal, normal_places}
 use Rattle.columns.specs.Columns.{band, mode, submode, band_rx}
@@ -18,14 +15,14 @@ use Rattle.model.specs.declared.Frequency.{Frequency}
 
 -- ---- as bytes
 
-abbrev pub band_name : Found → Option (List ℕ)
-band_name (At k) = entry band_names k
-band_name Nothing = none
+abbrev pub band_name : Option ℕ → Option (List ℕ)
+band_name (Some k) = entry band_names k
+band_name None = None
 
 -- the name of the band of a frequency, if there is one and it lies in a band
 abbrev pub band_of : Option ℕ → Option (List ℕ)
-band_of none = none
-band_of (some hz) = band_name (band_for hz)
+band_of None = None
+band_of (Some hz) = band_name (band_for hz)
 
 -- the name of a band in its canonical case, if the text names one
 unfoldable pub canonical : List ℕ → Option (List ℕ)
@@ -40,8 +37,8 @@ normal_band b freq = pick (is_blank b) (otherwise (band_of freq) b) (otherwise (
 
 -- a band of the receiver that is absent comes from its frequency; one that is present is never derived, even a blank one
 unfoldable pub normal_band_rx : Option (List ℕ) → Option ℕ → Option (List ℕ)
-normal_band_rx none freq = band_of freq
-normal_band_rx (some b) freq = some (otherwise (canonical b) b)
+normal_band_rx None freq = band_of freq
+normal_band_rx (Some b) freq = Some (otherwise (canonical b) b)
 
 -- the whole contact, with only mode, submode, band and band_rx changed
 unfoldable pub normal_contact : Contact → Contact

@@ -1,9 +1,9 @@
 -- The places that normalising gives stand for the bytes that it should give; so, of bytes, twice is once for places too.
 -- Assumes nothing.
+use Rattle.std.specs.Prelude.{Some, None, Option}
 use mathlib.Core.Path.{◌≡◌, refl, sym, ap, ◌∙◌}
 use mathlib.Core.Bool.{Bool, true, false}
 use mathlib.Core.List.{List, [], ◌∷◌}
-use mathlib.Core.Option.{Option, none, some}
 use Prim.Native.Nat.{ℕ, zero, suc, ◌+◌, ◌-◌, ◌≤◌, ◌<◌}
 use native.Mathlib.Nat.{zero-add, add-zero, add-suc, suc-add}
 use native.Mathlib.Omega.{arith}
@@ -26,8 +26,6 @@ use Rattle.tables.proofs.EntryLaws.{entry_in_lem}
 use Rattle.normalize.specs.Modes.{Known, submodes, aliases}
 use Rattle.tables.specs.Place.{place, absent, mode_entry, part, value, or_empty, bytes, tidy, is_empty, or_else}
 use Rattle.normalize.specs.Normal.{tidied, lookup, parent_of, otherwise, aliased, unless_empty, given, Normal, split, joined, normal, number, mode_numbers, entry_at, names, parent_entry, alias_entry, aliased_place, split_place, normal_places, modal}
-use Rattle.tables.specs.declared.Found.{Found}
-use Rattle.tables.specs.declared.Found.TheVariants.{At, Nothing}
 use Rattle.tables.specs.declared.Place.{Place}
 use Rattle.normalize.specs.declared.ModePair.{ModePair}
 use Rattle.tables.proofs.Tested.{all, all_at}
@@ -75,7 +73,7 @@ modal_place (suc (suc (suc k))) a n e =
     rw four (mode a n (ltb-true a (length mode_names) (both_right (eqb (suc (suc (suc k))) 4) (ltb a (length mode_names)) f)))
 
 -- ---- the entry of a table
-entry_within : (l : List (List ℕ)) (k : ℕ) (v : List ℕ) → entry l k ≡ some v → k < length l
+entry_within : (l : List (List ℕ)) (k : ℕ) (v : List ℕ) → entry l k ≡ Some v → k < length l
 entry_within [] k v e = absurd (let z : ◌≡◌ {A = ℕ} 0 1 = cc in omega arith)
 entry_within (x ∷ xs) zero v e = omega arith
 entry_within (x ∷ xs) (suc k) v e = omega (arith, entry_within xs k v e)
@@ -88,14 +86,14 @@ tidied_empty = refl
 mode_at_lem : (k : ℕ) → k < length mode_names → settled (or_empty (entry mode_names k)) ≡ true
 mode_at_lem k h = rw (entry_in_lem mode_names k h) (mode_settled k h)
 
-mode_entry_lem : (k : ℕ) → k < length mode_names → entry mode_names k ≡ some (or_empty (entry mode_names k))
+mode_entry_lem : (k : ℕ) → k < length mode_names → entry mode_names k ≡ Some (or_empty (entry mode_names k))
 mode_entry_lem k h = rw (entry_in_lem mode_names k h) refl
 
 no_bytes : (xs : List ℕ) → eqb (length xs) 0 ≡ true → xs ≡ []
 no_bytes [] e = refl
 no_bytes (x ∷ xs) e = absurd (omega (arith, eqb-true (suc (length xs)) 0 e))
 
-some_bytes : (xs : List ℕ) → eqb (length xs) 0 ≡ false → unless_empty (capitals xs) ≡ some (capitals xs)
+some_bytes : (xs : List ℕ) → eqb (length xs) 0 ≡ false → unless_empty (capitals xs) ≡ Some (capitals xs)
 some_bytes [] e = absurd (let z : ◌≡◌ {A = ℕ} 0 1 = cc in omega arith)
 some_bytes (x ∷ xs) e = refl
 
@@ -124,14 +122,14 @@ module _ (text : List ℕ) where
   tidy_bytes _ (mode k n h) = sym (settled_tidy (or_empty (entry mode_names k)) (mode_at_lem k h))
 
   -- the submode that is given, by whether its place is empty
-  none_given : (p : Place) → Modal p → is_empty (tidy text p) ≡ true → given (value text p) ≡ none
+  none_given : (p : Place) → Modal p → is_empty (tidy text p) ≡ true → given (value text p) ≡ None
   unfolding tidy part value
   none_given _ (gone a n) e = refl
   none_given _ (here a n) e = rw (tidied_is (span a n), no_bytes (trimmed (span a n)) e) refl
   none_given _ (up a n) e = rw (tidied_capitals (span a n), no_bytes (trimmed (span a n)) e) refl
   none_given _ (mode k n h) e = absurd (let z : ◌≡◌ {A = ℕ} 0 1 = cc in omega arith)
 
-  some_given : (p : Place) → Modal p → is_empty (tidy text p) ≡ false → given (value text p) ≡ some (bytes text (tidy text p))
+  some_given : (p : Place) → Modal p → is_empty (tidy text p) ≡ false → given (value text p) ≡ Some (bytes text (tidy text p))
   unfolding tidy part value
   some_given _ (gone a n) e = absurd (let z : ◌≡◌ {A = ℕ} 0 1 = cc in omega arith)
   some_given _ (here a n) e = rw (tidied_is (span a n), span_trimmed a n) (some_bytes (trimmed (span a n)) e)
@@ -140,7 +138,7 @@ module _ (text : List ℕ) where
       let v : settled (or_empty (entry mode_names k)) ≡ true = mode_at_lem k h in
       ap given (mode_entry_lem k h) ∙ ap unless_empty (settled_tidy (or_empty (entry mode_names k)) v) ∙ settled_some (or_empty (entry mode_names k)) v
 
-  some_value : (p : Place) → Modal p → is_empty (tidy text p) ≡ false → value text (tidy text p) ≡ some (bytes text (tidy text p))
+  some_value : (p : Place) → Modal p → is_empty (tidy text p) ≡ false → value text (tidy text p) ≡ Some (bytes text (tidy text p))
   unfolding tidy part value
   some_value _ (gone a n) e = absurd (let z : ◌≡◌ {A = ℕ} 0 1 = cc in omega arith)
   some_value _ (here a n) e = refl
@@ -148,14 +146,14 @@ module _ (text : List ℕ) where
   some_value _ (mode k n h) e = mode_entry_lem k h
 
 -- ---- a look-up of places and of bytes: both find nothing, or an entry and the mode that it stands for
-data Looked (f : Found) (at : ℕ → Option (List ℕ)) (o : Option (List ℕ)) : Type 0 where
-  missed : f ≡ Nothing → o ≡ none → Looked f at o
-  hit : (k : ℕ) (v : List ℕ) → f ≡ At k → at k ≡ some v → o ≡ some v → Looked f at o
+data Looked (f : Option ℕ) (at : ℕ → Option (List ℕ)) (o : Option (List ℕ)) : Type 0 where
+  missed : f ≡ None → o ≡ None → Looked f at o
+  hit : (k : ℕ) (v : List ℕ) → f ≡ Some k → at k ≡ Some v → o ≡ Some v → Looked f at o
 
 abbrev no_known : Known
 no_known = record { name = []; mode = [] }
 
-looked : (x : List ℕ) (rows : List Known) (i : ℕ) (at : ℕ → Option (List ℕ)) → ((k : ℕ) → k < length rows → at (i + k) ≡ some (get_or rows k no_known).mode)
+looked : (x : List ℕ) (rows : List Known) (i : ℕ) (at : ℕ → Option (List ℕ)) → ((k : ℕ) → k < length rows → at (i + k) ≡ Some (get_or rows k no_known).mode)
     → all (λ (r : Known). same (capitals r.name) r.name) rows ≡ true → Looked (first_from (same_raised x) i (names rows)) at (lookup (capitals x) rows)
 unfolding same_raised
 looked x [] i at g t = missed refl refl
@@ -169,9 +167,9 @@ looked x (r ∷ rs) i at g t =
     (looked x rs (suc i) at (λ k h. rw suc-add (rw add-suc at (g (suc k) (omega arith))))
     (both_right (same (capitals r.name) r.name) (all (λ (r : Known). same (capitals r.name) r.name) rs) t))
   where
-    by : (b : Bool) → same (capitals x) (capitals r.name) ≡ b → at i ≡ some r.mode
+    by : (b : Bool) → same (capitals x) (capitals r.name) ≡ b → at i ≡ Some r.mode
         → Looked (first_from (same_raised x) (suc i) (names rs)) at (lookup (capitals x) rs)
-        → Looked (pick (same (capitals x) (capitals r.name)) (At i) (first_from (same_raised x) (suc i) (names rs))) at (pick b (some r.mode) (lookup (capitals x) rs))
+        → Looked (pick (same (capitals x) (capitals r.name)) (Some i) (first_from (same_raised x) (suc i) (names rs))) at (pick b (Some r.mode) (lookup (capitals x) rs))
     by true e q later = hit i r.mode (rw e refl) q refl
     by false e q later = rw e later
 
@@ -185,23 +183,23 @@ numbered rows k = entry mode_names (get_or (mode_numbers rows) k 0)
 abbrev entered : Known → Bool
 entered r = both (not (is_none (entry mode_names (mode_number r)))) (same (or_empty (entry mode_names (mode_number r))) r.mode)
 
-is_entered : (r : Known) → entered r ≡ true → entry mode_names (mode_number r) ≡ some r.mode
+is_entered : (r : Known) → entered r ≡ true → entry mode_names (mode_number r) ≡ Some r.mode
 is_entered r e = by (entry mode_names (mode_number r)) e
   where
-    by : (o : Option (List ℕ)) → both (not (is_none o)) (same (or_empty o) r.mode) ≡ true → o ≡ some r.mode
-    by none q = absurd (let z : ◌≡◌ {A = ℕ} 0 1 = cc in omega arith)
-    by (some x) q = ap (λ (y : List ℕ). some y) (same_true x r.mode q)
+    by : (o : Option (List ℕ)) → both (not (is_none o)) (same (or_empty o) r.mode) ≡ true → o ≡ Some r.mode
+    by None q = absurd (let z : ◌≡◌ {A = ℕ} 0 1 = cc in omega arith)
+    by (Some x) q = ap (λ (y : List ℕ). Some y) (same_true x r.mode q)
 
 none_numbered : mode_number no_known ≡ 0
 unfolding mode_names modes
 none_numbered = refl
 
-numbered_at : (rows : List Known) → all entered rows ≡ true → (k : ℕ) → k < length rows → numbered rows k ≡ some (get_or rows k no_known).mode
+numbered_at : (rows : List Known) → all entered rows ≡ true → (k : ℕ) → k < length rows → numbered rows k ≡ Some (get_or rows k no_known).mode
 numbered_at rows t k h =
     let e : get_or (mode_numbers rows) k 0 ≡ mode_number (get_or rows k no_known) = rw none_numbered at (get_or-map mode_number rows k no_known) in
     rw e (is_entered (get_or rows k no_known) (all_at no_known entered rows t k h))
 
-module _ (text : List ℕ) (rows : List Known) (t : all entered rows ≡ true) (c : all (λ (r : Known). same (capitals r.name) r.name) rows ≡ true) (empty : named [] (names rows) ≡ Nothing) (nought : lookup [] rows ≡ none) (free : (x : List ℕ) → settled x ≡ true → lookup x rows ≡ none) where
+module _ (text : List ℕ) (rows : List Known) (t : all entered rows ≡ true) (c : all (λ (r : Known). same (capitals r.name) r.name) rows ≡ true) (empty : named [] (names rows) ≡ None) (nought : lookup [] rows ≡ None) (free : (x : List ℕ) → settled x ≡ true → lookup x rows ≡ None) where
   part_looked : (x : List ℕ) → Looked (named x (names rows)) (numbered rows) (lookup (capitals x) rows)
   unfolding named
   part_looked x = looked x rows 0 (numbered rows) (λ k h. rw zero-add (numbered_at rows t k h)) c
@@ -229,19 +227,19 @@ aliases_capital : all (λ (r : Known). same (capitals r.name) r.name) aliases �
 unfolding aliases raised
 aliases_capital = refl
 
-pub no_submode : named [] (names submodes) ≡ Nothing
+pub no_submode : named [] (names submodes) ≡ None
 unfolding named submodes same_raised
 no_submode = refl
 
-pub no_alias : named [] (names aliases) ≡ Nothing
+pub no_alias : named [] (names aliases) ≡ None
 unfolding named aliases same_raised
 no_alias = refl
 
-entry_value : (text : List ℕ) (rows : List Known) (k : ℕ) (v : List ℕ) → numbered rows k ≡ some v → value text (mode_entry (get_or (mode_numbers rows) k 0)) ≡ some v
+entry_value : (text : List ℕ) (rows : List Known) (k : ℕ) (v : List ℕ) → numbered rows k ≡ Some v → value text (mode_entry (get_or (mode_numbers rows) k 0)) ≡ Some v
 unfolding value
 entry_value text rows k v e = e
 
-absent_value : (text : List ℕ) → value text absent ≡ none
+absent_value : (text : List ℕ) → value text absent ≡ None
 unfolding value
 absent_value text = refl
 
@@ -267,11 +265,11 @@ module _ (text : List ℕ) (p : Place) (m : Modal p) where
       by (hit k v e a n) = rw (e, n) (ap or_empty (entry_value text aliases k v a))
 
 -- a place at which a submode was found has bytes
-found_value : (text : List ℕ) (p : Place) → Modal p → (k : ℕ) → named (part text (tidy text p)) (names submodes) ≡ At k
-    → value text (tidy text p) ≡ some (bytes text (tidy text p))
+found_value : (text : List ℕ) (p : Place) → Modal p → (k : ℕ) → named (part text (tidy text p)) (names submodes) ≡ Some k
+    → value text (tidy text p) ≡ Some (bytes text (tidy text p))
 unfolding tidy part value
 found_value text _ (gone a n) k e =
-    let w : Nothing ≡ At k = sym no_submode ∙ e in
+    let w : None ≡ Some k = sym no_submode ∙ e in
     absurd (let z : ◌≡◌ {A = ℕ} 0 1 = cc in omega arith)
 found_value text _ (here a n) k e = refl
 found_value text _ (up a n) k e = refl

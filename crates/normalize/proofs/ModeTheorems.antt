@@ -1,9 +1,9 @@
 -- No name stands twice in the tables; a mode is no submode and no alias. So normalising a mode twice is normalising it once, and
 -- a known submode sets its parent. Assumes nothing.
+use Rattle.std.specs.Prelude.{Option, None, Some}
 use mathlib.Core.Path.{◌≡◌, refl, sym, ap, ◌∙◌}
 use mathlib.Core.Bool.{Bool, true, false}
 use mathlib.Core.List.{List, [], ◌∷◌, ◌++◌, map}
-use mathlib.Core.Option.{Option, none, some}
 use Prim.Native.Nat.{ℕ, ◌<◌}
 use native.Mathlib.Omega.{arith}
 use lib.ListN.{length, get_or}
@@ -48,12 +48,12 @@ no_band_twice j k l h = not-true _ (pair_at [] (λ (x y : List ℕ). not (same_r
 
 -- ---- a mode is tidy, no submode and no alias, and so is every parent and every mode that an alias stands for
 abbrev pub is_none : Option (List ℕ) → Bool
-is_none none = true
-is_none (some x) = false
+is_none None = true
+is_none (Some x) = false
 
-pub is_none_lem : (o : Option (List ℕ)) → is_none o ≡ true → o ≡ none
-is_none_lem none e = refl
-is_none_lem (some x) e = absurd (let z : ◌≡◌ {A = ℕ} 0 1 = cc in omega arith)
+pub is_none_lem : (o : Option (List ℕ)) → is_none o ≡ true → o ≡ None
+is_none_lem None e = refl
+is_none_lem (Some x) e = absurd (let z : ◌≡◌ {A = ℕ} 0 1 = cc in omega arith)
 
 unfoldable pub settled : List ℕ → Bool
 settled x = both (same (tidied x) x) (both (is_none (parent_of x)) (both (is_none (lookup x aliases)) (not (same x []))))
@@ -71,20 +71,20 @@ module _ (x : List ℕ) (e : settled x ≡ true) where
   settled_tidy =
       same_true (tidied x) x (both_left (same (tidied x) x) (both (is_none (parent_of x)) (both (is_none (lookup x aliases)) (not (same x [])))) e)
 
-  pub settled_parent : parent_of x ≡ none
+  pub settled_parent : parent_of x ≡ None
   settled_parent = is_none_lem (parent_of x) (both_left (is_none (parent_of x)) (both (is_none (lookup x aliases)) (not (same x []))) rest1)
 
-  pub settled_lookup : lookup x aliases ≡ none
+  pub settled_lookup : lookup x aliases ≡ None
   settled_lookup = is_none_lem (lookup x aliases) (both_left (is_none (lookup x aliases)) (not (same x [])) rest2)
 
   pub settled_alias : aliased x ≡ x
   unfolding aliased
   settled_alias = rw settled_lookup refl
 
-  pub settled_some : unless_empty x ≡ some x
+  pub settled_some : unless_empty x ≡ Some x
   settled_some = by x (both_right (is_none (lookup x aliases)) (not (same x [])) rest2)
     where
-      by : (y : List ℕ) → not (same y []) ≡ true → unless_empty y ≡ some y
+      by : (y : List ℕ) → not (same y []) ≡ true → unless_empty y ≡ Some y
       by [] q = absurd (let z : ◌≡◌ {A = ℕ} 0 1 = cc in omega arith)
       by (b ∷ bs) q = refl
 
@@ -106,29 +106,29 @@ targets_settled : all settled (map mode_of aliases) ≡ true
 unfolding settled tidied parent_of submodes aliases trimmed trim_start trim_end lead space_len space_back width space1 space2 space3 space80 raised
 targets_settled = refl
 
-looked_up : (test : List ℕ → Bool) (x y : List ℕ) (rows : List Known) → all test (map mode_of rows) ≡ true → lookup x rows ≡ some y → test y ≡ true
+looked_up : (test : List ℕ → Bool) (x y : List ℕ) (rows : List Known) → all test (map mode_of rows) ≡ true → lookup x rows ≡ Some y → test y ≡ true
 looked_up test x y [] t e = absurd (let z : ◌≡◌ {A = ℕ} 0 1 = cc in omega arith)
 looked_up test x y (r ∷ rs) t e = by (same x r.name) e (λ q. looked_up test x y rs (both_right (test r.mode) (all test (map mode_of rs)) t) q)
   where
-    by : (b : Bool) → pick b (some r.mode) (lookup x rs) ≡ some y → (lookup x rs ≡ some y → test y ≡ true) → test y ≡ true
+    by : (b : Bool) → pick b (Some r.mode) (lookup x rs) ≡ Some y → (lookup x rs ≡ Some y → test y ≡ true) → test y ≡ true
     by true q k =
         let z : r.mode ≡ y = cc in
         rw z at (both_left (test r.mode) (all test (map mode_of rs)) t)
     by false q k = k q
 
-pub parent_settled : (x y : List ℕ) → parent_of x ≡ some y → settled y ≡ true
+pub parent_settled : (x y : List ℕ) → parent_of x ≡ Some y → settled y ≡ true
 unfolding parent_of
 parent_settled x y e = looked_up settled x y submodes parents_settled e
 
-pub target_settled : (x y : List ℕ) → lookup x aliases ≡ some y → settled y ≡ true
+pub target_settled : (x y : List ℕ) → lookup x aliases ≡ Some y → settled y ≡ true
 target_settled x y e = looked_up settled x y aliases targets_settled e
 
 -- ---- a known submode sets its parent
-pub submode_sets_parent : (m s p : List ℕ) → parent_of (tidied s) ≡ some p → (normal m (some s)).mode ≡ p
+pub submode_sets_parent : (m s p : List ℕ) → parent_of (tidied s) ≡ Some p → (normal m (Some s)).mode ≡ p
 unfolding normal parent_of submodes
 submode_sets_parent m s p e = by (tidied s) e
   where
-    by : (t : List ℕ) → parent_of t ≡ some p → (joined (tidied m) (unless_empty t)).mode ≡ p
+    by : (t : List ℕ) → parent_of t ≡ Some p → (joined (tidied m) (unless_empty t)).mode ≡ p
     by [] q = absurd (let z : ◌≡◌ {A = ℕ} 0 1 = cc in omega arith)
     by (b ∷ bs) q = rw q refl
 
@@ -144,35 +144,35 @@ module _ (m : List ℕ) (t : tidied m ≡ m) where
   alias_tidy = by (lookup m aliases) refl
     where
       by : (o : Option (List ℕ)) → lookup m aliases ≡ o → tidied (otherwise o m) ≡ otherwise o m
-      by none e = t
-      by (some y) e = settled_tidy y (target_settled m y e)
+      by None e = t
+      by (Some y) e = settled_tidy y (target_settled m y e)
 
   alias_twice : aliased (aliased m) ≡ aliased m
   unfolding aliased
   alias_twice = by (lookup m aliases) refl
     where
       by : (o : Option (List ℕ)) → lookup m aliases ≡ o → otherwise (lookup (otherwise o m) aliases) (otherwise o m) ≡ otherwise o m
-      by none e = rw e refl
-      by (some y) e = rw (settled_lookup y (target_settled m y e)) refl
+      by None e = rw e refl
+      by (Some y) e = rw (settled_lookup y (target_settled m y e)) refl
 
-  alias_parent : parent_of m ≡ none → parent_of (aliased m) ≡ none
+  alias_parent : parent_of m ≡ None → parent_of (aliased m) ≡ None
   unfolding aliased
   alias_parent n = by (lookup m aliases) refl
     where
-      by : (o : Option (List ℕ)) → lookup m aliases ≡ o → parent_of (otherwise o m) ≡ none
-      by none e = n
-      by (some y) e = settled_parent y (target_settled m y e)
+      by : (o : Option (List ℕ)) → lookup m aliases ≡ o → parent_of (otherwise o m) ≡ None
+      by None e = n
+      by (Some y) e = settled_parent y (target_settled m y e)
 
-empty_parent : parent_of [] ≡ none
+empty_parent : parent_of [] ≡ None
 unfolding parent_of submodes
 empty_parent = refl
 
 -- what is given is tidy and not empty
-given_tidy : (s : Option (List ℕ)) (x : List ℕ) → given s ≡ some x → unless_empty (tidied x) ≡ some x
-given_tidy none x e = absurd (let z : ◌≡◌ {A = ℕ} 0 1 = cc in omega arith)
-given_tidy (some y) x e = by (tidied y) refl e
+given_tidy : (s : Option (List ℕ)) (x : List ℕ) → given s ≡ Some x → unless_empty (tidied x) ≡ Some x
+given_tidy None x e = absurd (let z : ◌≡◌ {A = ℕ} 0 1 = cc in omega arith)
+given_tidy (Some y) x e = by (tidied y) refl e
   where
-    by : (z : List ℕ) → tidied y ≡ z → unless_empty z ≡ some x → unless_empty (tidied x) ≡ some x
+    by : (z : List ℕ) → tidied y ≡ z → unless_empty z ≡ Some x → unless_empty (tidied x) ≡ Some x
     by [] p q = absurd (let z : ◌≡◌ {A = ℕ} 0 1 = cc in omega arith)
     by (b ∷ bs) p q =
         let w : b ∷ bs ≡ x = cc in
@@ -182,24 +182,24 @@ given_tidy (some y) x e = by (tidied y) refl e
 split_twice : (m : List ℕ) → tidied m ≡ m → joined (tidied (split m (parent_of m)).mode) (given (split m (parent_of m)).submode) ≡ split m (parent_of m)
 split_twice m t = by (parent_of m) refl
   where
-    some_of : (m : List ℕ) → (parent_of m ≡ none → ⊥) → unless_empty m ≡ some m
+    some_of : (m : List ℕ) → (parent_of m ≡ None → ⊥) → unless_empty m ≡ Some m
     some_of [] n = absurd (n empty_parent)
     some_of (b ∷ bs) n = refl
 
     by : (o : Option (List ℕ)) → parent_of m ≡ o → joined (tidied (split m o).mode) (given (split m o).submode) ≡ split m o
-    by none e = rw (alias_tidy m t, alias_parent m t e, alias_twice m t) refl
-    by (some p) e = rw (t, some_of m (λ n. let z : ◌≡◌ {A = ℕ} 0 1 = cc in omega arith), e) refl
+    by None e = rw (alias_tidy m t, alias_parent m t e, alias_twice m t) refl
+    by (Some p) e = rw (t, some_of m (λ n. let z : ◌≡◌ {A = ℕ} 0 1 = cc in omega arith), e) refl
 
 pub normal_twice : (m : List ℕ) (s : Option (List ℕ)) → normal (normal m s).mode (normal m s).submode ≡ normal m s
 unfolding normal
 normal_twice m s = by (given s) refl
   where
     by : (o : Option (List ℕ)) → given s ≡ o → joined (tidied (joined (tidied m) o).mode) (given (joined (tidied m) o).submode) ≡ joined (tidied m) o
-    by none e = split_twice (tidied m) (tidied_twice m)
-    by (some x) e = rw (given_tidy s x e) (to (parent_of x) refl)
+    by None e = split_twice (tidied m) (tidied_twice m)
+    by (Some x) e = rw (given_tidy s x e) (to (parent_of x) refl)
       where
         to : (q : Option (List ℕ)) → parent_of x ≡ q
-            → ◌≡◌ {A = Normal} (record { mode = otherwise (parent_of x) (aliased (tidied (otherwise (parent_of x) (aliased (tidied m))))); submode = some x })
-            (record { mode = otherwise (parent_of x) (aliased (tidied m)); submode = some x })
-        to none p = rw (p, alias_tidy (tidied m) (tidied_twice m), alias_twice (tidied m) (tidied_twice m)) refl
-        to (some y) p = rw p refl
+            → ◌≡◌ {A = Normal} (record { mode = otherwise (parent_of x) (aliased (tidied (otherwise (parent_of x) (aliased (tidied m))))); submode = Some x })
+            (record { mode = otherwise (parent_of x) (aliased (tidied m)); submode = Some x })
+        to None p = rw (p, alias_tidy (tidied m) (tidied_twice m), alias_twice (tidied m) (tidied_twice m)) refl
+        to (Some y) p = rw p refl

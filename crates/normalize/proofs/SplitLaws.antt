@@ -1,4 +1,5 @@
 -- Laws of normalising places, one for each way out of the code. Assumes nothing.
+use Rattle.std.specs.Prelude.{Option}
 use mathlib.Core.Path.{◌≡◌, refl, ap, ◌∙◌}
 use mathlib.Core.Bool.{Bool, true, false}
 use mathlib.Core.List.{List}
@@ -7,7 +8,6 @@ use Rattle.tables.specs.Table.{Keyed}
 use Rattle.normalize.specs.Modes.{submodes, aliases}
 use Rattle.tables.specs.Place.{absent, part, tidy, is_absent, is_empty, or_else}
 use Rattle.normalize.specs.Normal.{entry_at, mode_numbers, names, parent_of_key, alias_of_key, parent_entry, alias_entry, aliased_place, split_place, normal_places}
-use Rattle.tables.specs.declared.Found.{Found}
 use Rattle.tables.specs.declared.Place.{Place}
 use Rattle.normalize.specs.declared.ModePair.{ModePair}
 use Rattle.tables.proofs.KeyLaws.{keys_named}
@@ -16,11 +16,11 @@ use Rattle.tables.proofs.KeyLaws.{keys_named}
 module _ (x : List ℕ) (k : ℕ) (ek : Keyed x k) where
   pub parent_of_key_lem : (q : Place) → q ≡ parent_of_key k → q ≡ parent_entry x
   unfolding parent_of_key parent_entry submodes
-  parent_of_key_lem q e = e ∙ ap (λ (f : Found). entry_at (mode_numbers submodes) f) (keys_named x k (names submodes) refl ek)
+  parent_of_key_lem q e = e ∙ ap (λ (f : Option ℕ). entry_at (mode_numbers submodes) f) (keys_named x k (names submodes) refl ek)
 
   alias_of_key_lem : (a : Place) → a ≡ alias_of_key k → a ≡ alias_entry x
   unfolding alias_of_key alias_entry aliases
-  alias_of_key_lem a e = e ∙ ap (λ (f : Found). entry_at (mode_numbers aliases) f) (keys_named x k (names aliases) refl ek)
+  alias_of_key_lem a e = e ∙ ap (λ (f : Option ℕ). entry_at (mode_numbers aliases) f) (keys_named x k (names aliases) refl ek)
 
   -- x is the part of the text at m
   module _ (text : List ℕ) (m : Place) (ex : x ≡ part text m) where

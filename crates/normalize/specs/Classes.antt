@@ -1,16 +1,12 @@
 -- The classes of modes: their names, the class of a mode, and the modes of a class.
-use Rattle.std.specs.Prelude.{ℕ, Bool, true, false, List, [], ◌∷◌, map, length, get_or}
+use Rattle.std.specs.Prelude.{ℕ, Bool, true, false, List, [], ◌∷◌, map, length, get_or, Option, Some, None}
 use Rattle.text.specs.Ascii.{ascii}
 use Rattle.text.specs.Pick.{pick}
 use Rattle.text.specs.Space.{trimmed}
 use Rattle.tables.specs.Table.{first_from, named}
 use Rattle.tables.specs.Modes.{Mode, modes, mode_names}
-use Rattle.tables.specs.declared.Found.{Found}
-use Rattle.tables.specs.declared.Found.TheVariants.{At, Nothing}
 use Rattle.tables.specs.declared.ModeClass.{ModeClass}
 use Rattle.tables.specs.declared.ModeClass.TheVariants.{Phone, Cw, Digital, Image}
-use Rattle.normalize.specs.declared.Classed.{Classed}
-use Rattle.normalize.specs.declared.Classed.TheVariants.{In, Unclassed}
 use Rattle.tables.specs.declared.Span.{Span}
 
 -- every class, in the order of their numbers from 0
@@ -34,16 +30,16 @@ class_number Digital = 2
 class_number Image = 3
 
 -- the class that stands at the entry found
-abbrev pub class_at : List ModeClass → Found → Classed
-class_at cs (At k) = In (get_or cs k Phone)
-class_at cs Nothing = Unclassed
+abbrev pub class_at : List ModeClass → Option ℕ → Option ModeClass
+class_at cs (Some k) = Some (get_or cs k Phone)
+class_at cs None = None
 
 -- the class that a text names
-unfoldable pub class_named : List ℕ → Classed
+unfoldable pub class_named : List ℕ → Option ModeClass
 class_named text = class_at classes (named (trimmed text) (map class_name classes))
 
 -- the class of the mode that a text names
-unfoldable pub class_of : List ℕ → Classed
+unfoldable pub class_of : List ℕ → Option ModeClass
 class_of text = class_at (map (λ (m : Mode). m.class) modes) (named (trimmed text) mode_names)
 
 abbrev pub same_class : ModeClass → ModeClass → Bool
@@ -73,9 +69,9 @@ unfoldable pub modes_in : ModeClass → List (List ℕ)
 modes_in c = names_in c modes
 
 -- the entries of the table of modes from the first of the class, as many as the class has
-abbrev pub span_from : Found → ℕ → Span
-span_from (At k) n = record { first = k; count = n }
-span_from Nothing n = record { first = 0; count = 0 }
+abbrev pub span_from : Option ℕ → ℕ → Span
+span_from (Some k) n = record { first = k; count = n }
+span_from None n = record { first = 0; count = 0 }
 
 unfoldable pub span_of : ModeClass → Span
 span_of c = span_from (first_from (λ (m : Mode). same_class c m.class) 0 modes) (length (modes_in c))

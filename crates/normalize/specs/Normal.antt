@@ -1,6 +1,5 @@
 -- Normalising a mode with its submode: what comes out, as bytes and then as places.
-use Rattle.std.specs.Prelude.{ℕ, Bool, List, [], ◌∷◌, map, eqb, leb, ltb, length, get_or}
-use Rattle.std.proofs.Math.Option.{Option, none, some}
+use Rattle.std.specs.Prelude.{ℕ, Bool, List, [], ◌∷◌, map, eqb, leb, ltb, length, get_or, Some, None, Option}
 use Rattle.text.specs.Pick.{pick, both, either}
 use Rattle.text.specs.Space.{trimmed}
 use Rattle.letters.specs.Capitals.{capitals}
@@ -9,8 +8,6 @@ use Rattle.tables.specs.Table.{first_from, named, key_of}
 use Rattle.tables.specs.Modes.{mode_names}
 use Rattle.normalize.specs.Modes.{Known, submodes, aliases}
 use Rattle.tables.specs.Place.{absent, mode_entry, part, tidy, is_absent, is_empty, or_else}
-use Rattle.tables.specs.declared.Found.{Found}
-use Rattle.tables.specs.declared.Found.TheVariants.{At, Nothing}
 use Rattle.tables.specs.declared.Place.{Place}
 use Rattle.normalize.specs.declared.ModePair.{ModePair}
 
@@ -22,27 +19,27 @@ tidied x = capitals (trimmed x)
 
 -- the mode of the first row whose name is the text
 abbrev pub lookup : List ℕ → List Known → Option (List ℕ)
-lookup x [] = none
-lookup x (r ∷ rs) = pick (same x r.name) (some r.mode) (lookup x rs)
+lookup x [] = None
+lookup x (r ∷ rs) = pick (same x r.name) (Some r.mode) (lookup x rs)
 
 unfoldable pub parent_of : List ℕ → Option (List ℕ)
 parent_of x = lookup x submodes
 
 abbrev pub otherwise : Option (List ℕ) → List ℕ → List ℕ
-otherwise none y = y
-otherwise (some x) y = x
+otherwise None y = y
+otherwise (Some x) y = x
 
 unfoldable pub aliased : List ℕ → List ℕ
 aliased x = otherwise (lookup x aliases) x
 
 -- a submode that is blank counts as absent
 abbrev pub unless_empty : List ℕ → Option (List ℕ)
-unless_empty [] = none
-unless_empty (x ∷ xs) = some (x ∷ xs)
+unless_empty [] = None
+unless_empty (x ∷ xs) = Some (x ∷ xs)
 
 abbrev pub given : Option (List ℕ) → Option (List ℕ)
-given none = none
-given (some x) = unless_empty (tidied x)
+given None = None
+given (Some x) = unless_empty (tidied x)
 
 pub record Normal : Type 0 where
   pub mode : List ℕ
@@ -50,13 +47,13 @@ pub record Normal : Type 0 where
 
 -- a mode that is a known submode splits
 abbrev pub split : List ℕ → Option (List ℕ) → Normal
-split m none = record { mode = aliased m; submode = none }
-split m (some p) = record { mode = p; submode = some m }
+split m None = record { mode = aliased m; submode = None }
+split m (Some p) = record { mode = p; submode = Some m }
 
 -- an explicit submode wins, and sets its parent if that is known
 abbrev pub joined : List ℕ → Option (List ℕ) → Normal
-joined m none = split m (parent_of m)
-joined m (some s) = record { mode = otherwise (parent_of s) (aliased m); submode = some s }
+joined m None = split m (parent_of m)
+joined m (Some s) = record { mode = otherwise (parent_of s) (aliased m); submode = Some s }
 
 unfoldable pub normal : List ℕ → Option (List ℕ) → Normal
 normal m s = joined (tidied m) (given s)
@@ -64,16 +61,16 @@ normal m s = joined (tidied m) (given s)
 -- ---- as places
 
 -- the number of a mode in the table of modes
-abbrev pub number : Found → ℕ
-number (At k) = k
-number Nothing = 0
+abbrev pub number : Option ℕ → ℕ
+number (Some k) = k
+number None = 0
 
 abbrev pub mode_numbers : List Known → List ℕ
 mode_numbers rows = map (λ (r : Known). number (first_from (same r.mode) 0 mode_names)) rows
 
-abbrev pub entry_at : List ℕ → Found → Place
-entry_at ns (At k) = mode_entry (get_or ns k 0)
-entry_at ns Nothing = absent
+abbrev pub entry_at : List ℕ → Option ℕ → Place
+entry_at ns (Some k) = mode_entry (get_or ns k 0)
+entry_at ns None = absent
 
 abbrev pub names : List Known → List (List ℕ)
 names rows = map (λ (r : Known). r.name) rows

@@ -1,10 +1,10 @@
 // The classes of modes.
-ghost use Rattle.std.specs.Prelude.{◌≡◌};
+ghost use Rattle.std.specs.Prelude.{◌≡◌, get_or};
 ghost use Rattle.normalize.specs.Classes.{class_numbered, class_number, class_name, class_named, class_of, span_of};
 ghost use Rattle.tables.specs.Place.{spelled};
+ghost use Rattle.tables.specs.declared.ModeClass.TheVariants.{Phone};
 
-use super::Classed;
-use tables::{Found, ModeClass, Name, Span, mode_names, name_in, named_in, number_at};
+use tables::{ModeClass, Name, Span, mode_names, name_in, named_in};
 
 const NAMES: [[u8; 12]; 4] = [
     *b"phone\0\0\0\0\0\0\0",
@@ -15,48 +15,78 @@ const NAMES: [[u8; 12]; 4] = [
 
 const LENS: [usize; 4] = [5, 2, 7, 5];
 
-// The number of each mode's class.
-const CLASSES: [u32; 31] = [
-    0, 0, 0, 0, 1, 2, 2, 2, 2, 2, 2, 2, 2, 2, 2, 2, 2, 2, 2, 2, 2, 2, 2, 2, 2, 2, 2, 2, 3, 3, 3,
+// Each mode's class.
+const CLASSES: [ModeClass; 31] = [
+    ModeClass::Phone,
+    ModeClass::Phone,
+    ModeClass::Phone,
+    ModeClass::Phone,
+    ModeClass::Cw,
+    ModeClass::Digital,
+    ModeClass::Digital,
+    ModeClass::Digital,
+    ModeClass::Digital,
+    ModeClass::Digital,
+    ModeClass::Digital,
+    ModeClass::Digital,
+    ModeClass::Digital,
+    ModeClass::Digital,
+    ModeClass::Digital,
+    ModeClass::Digital,
+    ModeClass::Digital,
+    ModeClass::Digital,
+    ModeClass::Digital,
+    ModeClass::Digital,
+    ModeClass::Digital,
+    ModeClass::Digital,
+    ModeClass::Digital,
+    ModeClass::Digital,
+    ModeClass::Digital,
+    ModeClass::Digital,
+    ModeClass::Digital,
+    ModeClass::Digital,
+    ModeClass::Image,
+    ModeClass::Image,
+    ModeClass::Image,
 ];
 
+// The class at k, and `Phone` past the end.
+fn class_at(classes: &[ModeClass], k: u32) -> ModeClass
+    ensures { result ≡ get_or classes.now k Phone }
+{
+    classes.get(k as usize).copied().unwrap_or(ModeClass::Phone)
+}
+
+#[tactic(auto, unfolding(crate::specs::Classes::class_numbered, crate::specs::Classes::classes))]
 pub fn class_numbered(n: u32) -> ModeClass
     ensures { result ≡ class_numbered n }
 {
-    if n == 1 {
-        return ModeClass::Cw;
+    match n {
+        1 => ModeClass::Cw,
+        2 => ModeClass::Digital,
+        3 => ModeClass::Image,
+        _ => ModeClass::Phone,
     }
-    if n == 2 {
-        return ModeClass::Digital;
-    }
-    if n == 3 {
-        return ModeClass::Image;
-    }
-    ModeClass::Phone
 }
 
 // The class that a text names.
-pub fn parse_class(name: &[u8]) -> Classed
+pub fn parse_class(name: &[u8]) -> Option<ModeClass>
     ensures { result ≡ class_named name.now }
 {
-    match named_in(&NAMES, &LENS, text::space::trim(name)) {
-        Found::At(k) => Classed::In(class_numbered(k)),
-        Found::Nothing => Classed::Unclassed,
-    }
+    let k = named_in(&NAMES, &LENS, text::space::trim(name))?;
+    Some(class_numbered(k))
 }
 
 // The class of a mode, which is ADIF's own: a submode has none of its own. Unclassed is never a guess.
-pub fn mode_class(mode: &[u8]) -> Classed
+pub fn mode_class(mode: &[u8]) -> Option<ModeClass>
     ensures { result ≡ class_of mode.now }
 {
-    match named_in(
+    let k = named_in(
         &mode_names::NAMES,
         &mode_names::LENS,
         text::space::trim(mode),
-    ) {
-        Found::At(k) => Classed::In(class_numbered(number_at(&CLASSES, k))),
-        Found::Nothing => Classed::Unclassed,
-    }
+    )?;
+    Some(class_at(&CLASSES, k))
 }
 
 pub fn class_number(class: ModeClass) -> u32
@@ -77,6 +107,7 @@ pub fn class_name(class: ModeClass) -> Name
 }
 
 // The entries of the modes in a class: they stand together in the table.
+#[tactic(auto, unfolding(crate::specs::Classes::span_of, crate::specs::Classes::modes_in, tables::specs::Modes::modes))]
 pub fn modes_in_class(class: ModeClass) -> Span
     ensures { result ≡ span_of class }
 {

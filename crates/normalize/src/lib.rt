@@ -11,9 +11,3 @@ pub struct ModePair {
     pub mode: Place,
     pub submode: Place,
 }
-
-#[derive(Clone, Copy)]
-pub enum Classed {
-    In(ModeClass),
-    Unclassed,
-}

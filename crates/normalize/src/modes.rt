@@ -3,7 +3,7 @@ ghost use Rattle.std.specs.Prelude.{◌≡◌, ◌≤◌, length};
 ghost use Rattle.normalize.specs.Normal.{entry_at, parent_of_key, alias_of_key, parent_entry, aliased_place, split_place, normal_places};
 
 use super::ModePair;
-use tables::{Found, Place, first_key, number_at, places, text_key};
+use tables::{Place, first_key, number_at, places, text_key};
 
 // The submodes as keys: 1, then the bytes of the name.
 const SUBMODES: [u64; 10] = [
@@ -37,13 +37,13 @@ const ALIASES: [u64; 7] = [
 const ALIASED: [u32; 7] = [0, 0, 4, 4, 6, 6, 6];
 
 // The mode whose number stands at the entry that was found.
-fn mode_at(numbers: &[u32], f: Found) -> Place
+fn mode_at(numbers: &[u32], f: Option<u32>) -> Place
     ensures { result ≡ entry_at numbers.now f }
 {
-    match f {
-        Found::At(k) => places::mode_entry(number_at(numbers, k)),
-        Found::Nothing => places::absent(),
-    }
+    f.map_or(
+        places::absent(),
+        |k| places::mode_entry(number_at(numbers, k)),
+    )
 }
 
 fn parent_of_key(k: u64) -> Place
@@ -77,14 +77,15 @@ fn split_mode(text: &[u8], m: Place) -> ModePair
     let k = text_key(places::part(text, m));
     let parent = parent_of_key(k);
     if places::is_absent(parent) {
-        return ModePair {
+        ModePair {
             mode: places::or_else(alias_of_key(k), m),
             submode: places::absent(),
-        };
-    }
-    ModePair {
-        mode: parent,
-        submode: m,
+        }
+    } else {
+        ModePair {
+            mode: parent,
+            submode: m,
+        }
     }
 }
 

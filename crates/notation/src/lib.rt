@@ -2,7 +2,7 @@
 // `%XX` is a byte that cannot stand for itself; a number is in decimal.
 #![tactic(auto)]
 
-ghost use Rattle.std.specs.Prelude.{◌≤◌, ◌<◌, length};
+ghost use Rattle.std.specs.Prelude.{◌≤◌, ◌<◌, length, IfSome};
 
 // The place after the first b from `from` on, or the end.
 pub fn after(s: &[u8], from: usize, b: u8) -> usize
@@ -33,6 +33,14 @@ pub fn text_at(s: &[u8], from: usize, out: &mut [u8]) -> usize
     decode(&s[start..end], out)
 }
 
+// The text itself.
+pub fn text_in<'a>(s: &[u8], from: usize, out: &'a mut [u8]) -> &'a [u8]
+    ensures { length result.now ≤ length out.old }
+{
+    let n = text_at(s, from, out);
+    &out[..n]
+}
+
 // The place after the text in bars from `from` on, and the blank behind it.
 pub fn after_text(s: &[u8], from: usize) -> usize
     ensures { result ≤ length s.now }
@@ -44,11 +52,7 @@ pub fn after_text(s: &[u8], from: usize) -> usize
 
 // The number from `from` on, up to a blank, or 0 where none stands there.
 pub fn number_at(s: &[u8], from: usize) -> u64 {
-    let n = decimal::parse_unsigned(word(s, from));
-    match n {
-        decimal::Unsigned::Is(v) => v,
-        decimal::Unsigned::Not => 0,
-    }
+    decimal::parse_unsigned(word(s, from)).unwrap_or(0)
 }
 
 // The place after the argument, or the `=`, that stands at `at`.
@@ -80,84 +84,99 @@ pub fn answer(s: &[u8]) -> &[u8] {
 fn hex(b: u8) -> u8
     ensures { result ≤ 15 }
 {
-    if text::inside(b, b'A', b'F') {
-        return (b % 16 + 9) % 16;
+    match b {
+        b'A'..=b'F' => b - b'A' + 10,
+        _ => b % 16,
     }
-    b % 16
 }
 
-// The byte that stands at i of s, `%XX` being one.
-fn value(s: &[u8], i: usize) -> u8
-    requires { i < length s.now }
-{
-    let b = s[i];
-    if b == b'%' {
-        return hex(text::byte(s, i + 1)) * 16 + hex(text::byte(s, i + 2));
+// The byte that stands in front, `%XX` being one, and what follows it.
+fn first(s: &[u8]) -> Option<(u8, &[u8])> {
+    match s {
+        [] => None,
+        [b'%', high, low, rest @ ..] => Some((hex(*high) * 16 + hex(*low), rest)),
+        [b, rest @ ..] => Some((*b, rest)),
     }
-    b
-}
-
-fn width(b: u8) -> usize
-    ensures { (1 ≤ result) × (result ≤ 3) }
-{
-    if b == b'%' { 3 } else { 1 }
 }
 
 // The bytes that s stands for, put at the front of out.
 pub fn decode(s: &[u8], out: &mut [u8]) -> usize
     ensures { result ≤ length out.new }
 {
-    let mut i = 0;
-    let mut k = 0;
-    while i < s.len() {
-        if out.len() <= k {
+    let mut rest = s;
+    for (k, slot) in out.iter_mut().enumerate() {
+        let Some((b, tail)) = first(rest) else {
             return k;
-        }
-        out[k] = value(s, i);
-        k += 1;
-        i += width(s[i]);
+        };
+        *slot = b;
+        rest = tail;
     }
-    k
+    out.len()
 }
 
 // n in decimal, where there is room.
-pub fn put_number(out: &mut [u8], at: usize, n: u64) -> usize
-    ensures { result ≤ length out.new }
+pub fn put_number(out: &mut [u8], at: usize, n: u64) -> Option<usize>
+    ensures { IfSome result (λ n. n ≤ length out.new) }
 {
     let size = output::decimal_size(n);
-    if out.len() < size {
-        return 0;
+    if out.len() < size || out.len() - size < at {
+        return None;
     }
-    if out.len() - size < at {
-        return 0;
+    Some(output::put_decimal(out, at, n))
+}
+
+// The bytes of s, where there is room.
+pub fn put_bytes(out: &mut [u8], at: usize, s: &[u8]) -> Option<usize>
+    ensures { IfSome result (λ n. n ≤ length out.new) }
+{
+    if out.len() < s.len() || out.len() - s.len() < at {
+        return None;
     }
-    output::put_decimal(out, at, n)
+    Some(output::put_bytes(out, at, s))
 }
 
 // b, where there is room.
-pub fn put_byte(out: &mut [u8], at: usize, b: u8) -> usize
-    ensures { result ≤ length out.new }
+pub fn put_byte(out: &mut [u8], at: usize, b: u8) -> Option<usize>
+    ensures { IfSome result (λ n. n ≤ length out.new) }
 {
-    if at < out.len() {
-        output::put_byte(out, at, b)
-    } else {
-        0
-    }
+    put_bytes(out, at, &[b])
 }
 
 // The answer `none`, where there is room.
-pub fn put_none(out: &mut [u8]) -> usize
-    ensures { result ≤ length out.new }
+pub fn put_none(out: &mut [u8]) -> Option<usize>
+    ensures { IfSome result (λ n. n ≤ length out.new) }
 {
-    if out.len() < 4 {
-        return 0;
+    put_bytes(out, 0, b"none")
+}
+
+// The answer n, or `none`, where there is room.
+pub fn put_number_or_none(out: &mut [u8], n: Option<u64>) -> Option<usize>
+    ensures { IfSome result (λ n. n ≤ length out.new) }
+{
+    match n {
+        Some(v) => put_number(out, 0, v),
+        None => put_none(out),
     }
-    output::put_bytes(out, 0, b"none")
+}
+
+// The numbers from `at` on, a blank before each but one at the very front, where there is room.
+pub fn put_numbers<N: Copy + Into<u64>>(out: &mut [u8], at: usize, numbers: &[N]) -> Option<usize>
+    requires { at ≤ length out.old }
+    ensures { IfSome result (λ n. n ≤ length out.new) }
+{
+    let mut to = at;
+    for &n in numbers {
+        if 0 < to {
+            to = put_byte(out, to, b' ')?;
+        }
+        to = put_number(out, to, n.into())?;
+    }
+    Some(to)
 }
 
 // Whether b stands for itself in a text in bars.
 fn is_plain(b: u8) -> bool {
-    text::all(text::inside(b, b'!', b'~'), text::all(b != b'|', b != b'%'))
+    b.is_ascii_graphic() && b != b'|' && b != b'%'
 }
 
 fn hex_digit(n: u8) -> u8
@@ -167,26 +186,32 @@ fn hex_digit(n: u8) -> u8
 }
 
 // b as it stands in a text in bars, where there is room.
-fn put_coded(out: &mut [u8], at: usize, b: u8) -> usize
-    ensures { result ≤ length out.new }
+fn put_coded(out: &mut [u8], at: usize, b: u8) -> Option<usize>
+    ensures { IfSome result (λ n. n ≤ length out.new) }
 {
     if is_plain(b) {
         return put_byte(out, at, b);
     }
-    let sign = put_byte(out, at, b'%');
-    let high = put_byte(out, sign, hex_digit(b / 16));
+    let sign = put_byte(out, at, b'%')?;
+    let high = put_byte(out, sign, hex_digit(b / 16))?;
     put_byte(out, high, hex_digit(b % 16))
 }
 
-// s in bars, where there is room.
-pub fn put_bars(out: &mut [u8], at: usize, s: &[u8]) -> usize
-    ensures { result ≤ length out.new }
+// s in bars, each byte as f makes it, where there is room.
+pub fn put_bars_by<F: Fn(u8) -> u8>(out: &mut [u8], at: usize, s: &[u8], f: F) -> Option<usize>
+    requires { F.IsAlwaysCallable f }
+    ensures { IfSome result (λ n. n ≤ length out.new) }
 {
-    let mut to = put_byte(out, at, b'|');
-    let mut i = 0;
-    while i < s.len() {
-        to = put_coded(out, to, s[i]);
-        i += 1;
+    let mut to = put_byte(out, at, b'|')?;
+    for &b in s {
+        to = put_coded(out, to, f(b))?;
     }
     put_byte(out, to, b'|')
+}
+
+// s in bars, where there is room.
+pub fn put_bars(out: &mut [u8], at: usize, s: &[u8]) -> Option<usize>
+    ensures { IfSome result (λ n. n ≤ length out.new) }
+{
+    put_bars_by(out, at, s, |b| b)
 }

@@ -53,10 +53,6 @@ pub room_byte : (l : List ℕ) (at b : ℕ) → Room l at (b ∷ []) → at < le
 unfolding Room
 room_byte l at b h = omega arith
 
-pub room_bytes : (l : List ℕ) (at : ℕ) (w : List ℕ) → Room l at w → at + length w ≤ length l
-unfolding Room
-room_bytes l at w h = h
-
 module _ (was : List ℕ) (at : ℕ) (a b : List ℕ) (h : Room was at (a ++ b)) where
   pub room_first : Room was at a
   unfolding Room

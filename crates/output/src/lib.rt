@@ -13,16 +13,14 @@ pub fn put_byte(out: &mut [u8], at: usize, b: u8) -> usize
     at + 1
 }
 
+#[tactic(auto, unfolding(crate::specs::Put::Put, crate::specs::Put::Room))]
 pub fn put_bytes(out: &mut [u8], at: usize, src: &[u8]) -> usize
     requires { Room out.old at src.now }
     ensures { Put result out.old out.new at src.now }
 {
-    let mut i = 0;
-    while i < src.len() {
-        out[at + i] = src[i];
-        i += 1;
-    }
-    at + i
+    let end = at + src.len();
+    out[at..end].copy_from_slice(src);
+    end
 }
 
 // How many digits n has, at most k.

@@ -11,9 +11,9 @@ ghost use Rattle.lookup.specs.Lookup.{searched_as, index_left, found_after};
 ghost use Rattle.listwriter.specs.Append.{start_as, start_after, append_as, append_after};
 ghost use Rattle.ox_contacts.specs.Answers.{of_listed, of_freshness, of_appended};
 
-use contacts::{Freshness, Listed};
+use contacts::{Freshness, Mark};
 use index::Contact;
-use listwriter::Appended;
+use refusals::Refusal;
 
 // A list's mark: how many contacts, and the largest id.
 #[repr(C)]
@@ -31,39 +31,45 @@ pub struct FreshAnswer {
     pub fresh: bool,
 }
 
-fn of_listed(listed: Listed) -> MarkAnswer
-    ensures { result ≡ of_listed listed }
-{
-    match listed {
-        Listed::Marked { contacts, largest } => MarkAnswer {
-            refusal: 0,
-            contacts: contacts,
-            largest: largest,
-        },
-        Listed::Refused(why) => MarkAnswer {
-            refusal: refusals::number(why),
-            contacts: 0,
-            largest: 0,
-        },
+impl From<Result<Mark, Refusal>> for MarkAnswer {
+    ghost from_gives = { λ listed r. r ≡ of_listed listed };
+
+    #[tactic(auto, unfolding(crate::specs::Answers::of_listed))]
+    fn from(listed: Result<Mark, Refusal>) -> MarkAnswer {
+        match listed {
+            Ok(Mark { contacts, largest }) => MarkAnswer {
+                refusal: 0,
+                contacts,
+                largest,
+            },
+            Err(why) => MarkAnswer {
+                refusal: refusals::number(why),
+                contacts: 0,
+                largest: 0,
+            },
+        }
     }
 }
 
-fn of_freshness(freshness: Freshness) -> FreshAnswer
-    ensures { result ≡ of_freshness freshness }
-{
-    match freshness {
-        Freshness::Fresh => FreshAnswer {
-            refusal: 0,
-            fresh: true,
-        },
-        Freshness::Stale => FreshAnswer {
-            refusal: 0,
-            fresh: false,
-        },
-        Freshness::Refused(why) => FreshAnswer {
-            refusal: refusals::number(why),
-            fresh: false,
-        },
+impl From<Result<Freshness, Refusal>> for FreshAnswer {
+    ghost from_gives = { λ freshness r. r ≡ of_freshness freshness };
+
+    #[tactic(auto, unfolding(crate::specs::Answers::of_freshness))]
+    fn from(freshness: Result<Freshness, Refusal>) -> FreshAnswer {
+        match freshness {
+            Ok(Freshness::Fresh) => FreshAnswer {
+                refusal: 0,
+                fresh: true,
+            },
+            Ok(Freshness::Stale) => FreshAnswer {
+                refusal: 0,
+                fresh: false,
+            },
+            Err(why) => FreshAnswer {
+                refusal: refusals::number(why),
+                fresh: false,
+            },
+        }
     }
 }
 
@@ -71,7 +77,7 @@ fn of_freshness(freshness: Freshness) -> FreshAnswer
 pub extern "C" fn ox_contacts_check(list: &[u8]) -> MarkAnswer
     ensures { result ≡ of_listed (listed_as list.now) }
 {
-    of_listed(contacts::check(list))
+    MarkAnswer::from(contacts::check(list))
 }
 
 // Whether a plan with this mark is fresh against a list.
@@ -79,7 +85,7 @@ pub extern "C" fn ox_contacts_check(list: &[u8]) -> MarkAnswer
 pub extern "C" fn ox_contacts_fresh(contacts: usize, largest: u64, list: &[u8]) -> FreshAnswer
     ensures { result ≡ of_freshness (fresh_against contacts largest list.now) }
 {
-    of_freshness(contacts::is_fresh(contacts, largest, list))
+    FreshAnswer::from(contacts::is_fresh(contacts, largest, list))
 }
 
 // The index of a list, in a record a contact; zero throughout after a refusal.
@@ -88,7 +94,7 @@ pub extern "C" fn ox_contacts_index(list: &[u8], index: &mut [Contact]) -> MarkA
     ensures value { result ≡ of_listed (indexed_as list.now (length index.old)) }
     ensures index_after { plain index.new ≡ index_after list.now (length index.old) }
 {
-    of_listed(indexing::build(list, index))
+    MarkAnswer::from(indexing::build(list, index))
 }
 
 // For each contact of the other list the number, from 1, of the first contact of the list that it matches within the window, or 0.
@@ -105,7 +111,7 @@ pub extern "C" fn ox_contacts_search(
     ensures index_after { plain index.new ≡ index_left list.now other.now (length index.old) (length found.old) }
     ensures found_after { found.new ≡ found_after list.now (limit_of window) other.now (length index.old) (length found.old) }
 {
-    of_listed(lookup::look_up(list, other, window, index, found))
+    MarkAnswer::from(lookup::look_up(list, other, window, index, found))
 }
 
 // How many bytes the list now has.
@@ -116,18 +122,18 @@ pub struct AppendAnswer {
     pub length: usize,
 }
 
-fn of_appended(appended: Appended) -> AppendAnswer
-    ensures { result ≡ of_appended appended }
-{
-    match appended {
-        Appended::Bytes(length) => AppendAnswer {
-            refusal: 0,
-            length: length,
-        },
-        Appended::Refused(why) => AppendAnswer {
-            refusal: refusals::number(why),
-            length: 0,
-        },
+impl From<Result<usize, Refusal>> for AppendAnswer {
+    ghost from_gives = { λ appended r. r ≡ of_appended appended };
+
+    #[tactic(auto, unfolding(crate::specs::Answers::of_appended))]
+    fn from(appended: Result<usize, Refusal>) -> AppendAnswer {
+        match appended {
+            Ok(length) => AppendAnswer { refusal: 0, length },
+            Err(why) => AppendAnswer {
+                refusal: refusals::number(why),
+                length: 0,
+            },
+        }
     }
 }
 
@@ -137,7 +143,7 @@ pub extern "C" fn ox_contacts_start(out: &mut [u8]) -> AppendAnswer
     ensures value { result ≡ of_appended (start_as (length out.old)) }
     ensures out_after { out.new ≡ start_after out.old }
 {
-    of_appended(listwriter::start(out))
+    AppendAnswer::from(listwriter::start(out))
 }
 
 // A contact behind a list of `used` bytes, whose mark is told. Of the list only the heading is looked at.
@@ -158,7 +164,7 @@ pub extern "C" fn ox_contacts_append(
     ensures value { result ≡ of_appended (append_as used contacts largest (contact id services call.now date.now time.now band.now mode.now) out.old) }
     ensures out_after { out.new ≡ append_after used contacts largest (contact id services call.now date.now time.now band.now mode.now) out.old }
 {
-    of_appended(listwriter::append(
+    AppendAnswer::from(listwriter::append(
         out, used, contacts, largest, id, services, call, date, time, band, mode,
     ))
 }

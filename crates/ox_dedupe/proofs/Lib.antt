@@ -1,2 +1,1 @@
-pub mod DuplicateAnswers
 pub mod Determined

@@ -1,15 +1,12 @@
 -- The answers of the calls that plan and that sum a plan up, as numbers.
-use Rattle.std.specs.Prelude.{ℕ, ◌≤◌, List, length}
+use Rattle.planner.specs.declared.Planned.{Planned}
+use Rattle.std.specs.Prelude.{ℕ, ◌≤◌, List, length, Result, Ok, Err}
 use Rattle.refusals.specs.Refusals.{number_of, place_of, name_of, name_length_of, wanted_of, left_of}
 use Rattle.refusals.specs.declared.Refusal.{Refusal}
 use Rattle.summary.specs.declared.Counts.{Counts}
-use Rattle.summary.specs.declared.Line.{Line}
-use Rattle.summary.specs.declared.Line.TheVariants.{Bytes, Refused as Unwritten}
 use Rattle.plan.specs.Fates.{fates_in}
 use Rattle.plan.specs.Plan.{counts_with, counts_of}
 use Rattle.planner.specs.Planning.{Asked, read_of, plan_for, planned_as}
-use Rattle.planner.specs.declared.Planned.{Planned}
-use Rattle.planner.specs.declared.Planned.TheVariants.{Made, Refused}
 use Rattle.ox_import.specs.declared.PlanAnswer.{PlanAnswer}
 use Rattle.ox_import.specs.declared.LineAnswer.{LineAnswer}
 
@@ -34,8 +31,8 @@ unplanned_of why =
     }
 
 -- with what it counts
-unfoldable pub of_planned : Planned → Counts → PlanAnswer
-of_planned (Made n used cards already unmatched contacts top) counts =
+unfoldable pub of_planned : Result Planned Refusal → Counts → PlanAnswer
+of_planned (Ok p) counts =
     record {
       refusal = 0;
       place = 0;
@@ -43,28 +40,28 @@ of_planned (Made n used cards already unmatched contacts top) counts =
       name_length = 0;
       wanted = 0;
       left = 0;
-      records = n;
-      rows = used;
-      confirmations = cards;
-      contacts = contacts;
-      largest = top;
+      records = p.records;
+      rows = p.rows;
+      confirmations = p.confirmations;
+      contacts = p.contacts;
+      largest = p.largest;
       counts = counts;
     }
-of_planned (Refused why) counts = unplanned_of why
+of_planned (Err why) counts = unplanned_of why
 
 -- the counts come from the fates
-unfoldable pub counts_in : Planned → List (List ℕ) → Counts
-counts_in (Made n used cards already unmatched contacts top) fates = counts_with (fates_in fates n) cards already unmatched
-counts_in (Refused why) fates = no_counts
+unfoldable pub counts_in : Result Planned Refusal → List (List ℕ) → Counts
+counts_in (Ok p) fates = counts_with (fates_in fates p.records) p.confirmations p.already p.unmatched
+counts_in (Err why) fates = no_counts
 
 unfoldable pub plan_answer : Asked → PlanAnswer
 plan_answer a = of_planned (planned_as a) (counts_of (plan_for a (read_of a)))
 
 -- the rows hold the records that the answer says
-unfoldable pub InRows : Planned → List (List ℕ) → Type 0
-InRows (Made n used cards already unmatched contacts top) fates = (n ≤ length fates) × (n ≤ 65535)
-InRows (Refused why) fates = Unit {0}
+unfoldable pub InRows : Result Planned Refusal → List (List ℕ) → Type 0
+InRows (Ok p) fates = (p.records ≤ length fates) × (p.records ≤ 65535)
+InRows (Err why) fates = Unit {0}
 
-unfoldable pub of_line : Line → LineAnswer
-of_line (Bytes n) = record { refusal = 0; length = n }
-of_line (Unwritten why) = record { refusal = number_of why; length = 0 }
+unfoldable pub of_line : Result ℕ Refusal → LineAnswer
+of_line (Ok n) = record { refusal = 0; length = n }
+of_line (Err why) = record { refusal = number_of why; length = 0 }

@@ -10,7 +10,7 @@ ghost use Rattle.ox_import.specs.Plans.{no_counts, unplanned_of, of_planned, cou
 use index::Contact;
 use planner::Planned;
 use refusals::Refusal;
-use summary::{Counts, Line};
+use summary::Counts;
 
 // Refusals as in the answer of a reading, with their places in the text, never in the list. Of a plan: the records and the rows they
 // take, the confirmations to record, the list's mark, which the plan keeps, and what it counts.
@@ -53,53 +53,54 @@ fn no_counts() -> Counts
     }
 }
 
-fn unplanned(why: Refusal) -> PlanAnswer
-    ensures { result ≡ unplanned_of why }
-{
-    PlanAnswer {
-        refusal: refusals::number(why),
-        place: refusals::place(why),
-        name: refusals::name(why),
-        name_length: refusals::name_length(why),
-        wanted: refusals::wanted(why),
-        left: refusals::left(why),
-        records: 0,
-        rows: 0,
-        confirmations: 0,
-        contacts: 0,
-        largest: 0,
-        counts: no_counts(),
+impl From<Refusal> for PlanAnswer {
+    ghost from_gives = { λ why r. r ≡ unplanned_of why };
+
+    #[tactic(auto, unfolding(crate::specs::Plans::unplanned_of))]
+    fn from(why: Refusal) -> PlanAnswer {
+        PlanAnswer {
+            refusal: refusals::number(why),
+            place: refusals::place(why),
+            name: refusals::name(why),
+            name_length: refusals::name_length(why),
+            wanted: refusals::wanted(why),
+            left: refusals::left(why),
+            records: 0,
+            rows: 0,
+            confirmations: 0,
+            contacts: 0,
+            largest: 0,
+            counts: no_counts(),
+        }
     }
 }
 
-fn of_planned(planned: Planned, fates: &[[u32; 28]]) -> PlanAnswer
+fn of_planned(planned: Result<Planned, Refusal>, fates: &[[u32; 28]]) -> PlanAnswer
     requires { InRows planned fates.now }
     ensures { result ≡ of_planned planned (counts_in planned fates.now) }
 {
     match planned {
-        Planned::Made {
-            records,
-            rows,
-            confirmations,
-            already,
-            unmatched,
-            contacts,
-            largest,
-        } => PlanAnswer {
+        Ok(p) => PlanAnswer {
             refusal: 0,
             place: 0,
             name: 0,
             name_length: 0,
             wanted: 0,
             left: 0,
-            records: records,
-            rows: rows,
-            confirmations: confirmations,
-            contacts: contacts,
-            largest: largest,
-            counts: plan::counts_of(fates, records, confirmations as u64, already, unmatched),
+            records: p.records,
+            rows: p.rows,
+            confirmations: p.confirmations,
+            contacts: p.contacts,
+            largest: p.largest,
+            counts: plan::counts_of(
+                fates,
+                p.records,
+                p.confirmations as u64,
+                p.already,
+                p.unmatched,
+            ),
         },
-        Planned::Refused(why) => unplanned(why),
+        Err(why) => PlanAnswer::from(why),
     }
 }
 
@@ -132,18 +133,21 @@ pub extern "C" fn ox_plan(
     of_planned(planned, fates)
 }
 
-fn of_line(line: Line) -> LineAnswer
-    ensures { result ≡ of_line line }
-{
-    match line {
-        Line::Bytes(n) => LineAnswer {
-            refusal: 0,
-            length: n,
-        },
-        Line::Refused(why) => LineAnswer {
-            refusal: refusals::number(why),
-            length: 0,
-        },
+impl From<Result<usize, Refusal>> for LineAnswer {
+    ghost from_gives = { λ line r. r ≡ of_line line };
+
+    #[tactic(auto, unfolding(crate::specs::Plans::of_line))]
+    fn from(line: Result<usize, Refusal>) -> LineAnswer {
+        match line {
+            Ok(n) => LineAnswer {
+                refusal: 0,
+                length: n,
+            },
+            Err(why) => LineAnswer {
+                refusal: refusals::number(why),
+                length: 0,
+            },
+        }
     }
 }
 
@@ -153,5 +157,5 @@ pub extern "C" fn ox_plan_summary(counts: Counts, out: &mut [u8]) -> LineAnswer
     ensures value { result ≡ of_line (answer_to counts out.old) }
     ensures out_after { out.new ≡ output_after counts out.old }
 {
-    of_line(summary::write_summary(counts, out))
+    LineAnswer::from(summary::write_summary(counts, out))
 }

@@ -1,3 +1,2 @@
-pub mod FrequencyAnswers
 pub mod Determined
 pub mod Survives

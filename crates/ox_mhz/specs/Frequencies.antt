@@ -2,14 +2,13 @@
 use Rattle.std.specs.Prelude.{◌≡◌, true, false, List, ℕ}
 use Rattle.refusals.specs.Refusals.{number_of, place_of, of_text}
 use Rattle.refusals.specs.declared.Refusal.{Refusal}
-use Rattle.refusals.specs.declared.Refusal.TheVariants.{ShortOutput, FrequencyTooHigh, InexactFrequency}
+use Rattle.refusals.specs.declared.Refusal.TheVariants.{InexactFrequency}
 use Rattle.mhz.specs.Reading.{read_hertz}
 use Rattle.mhz.specs.Writing.{answer_to, output_by}
 use Rattle.mhz.specs.declared.Hz.{Hz}
 use Rattle.mhz.specs.declared.Hz.TheVariants.{Absent, Is, Outside}
-use Rattle.mhz.specs.declared.Wrote.{Wrote}
-use Rattle.mhz.specs.declared.Wrote.TheVariants.{End, TooHigh, Short}
 use Rattle.ox_text.specs.Texts.{answer}
+use Rattle.ox_text.specs.Writing.{of_written}
 use Rattle.ox_mhz.specs.declared.Frequency.{Frequency}
 use Rattle.ox_text.specs.declared.Written.{Written}
 
@@ -27,11 +26,6 @@ unfoldable pub frequency_of : List ℕ → Frequency
 frequency_of text = answer untuned_of (of_hz (read_hertz text)) (of_text text)
 
 -- a frequency that is too high is refusal 14, an output that is too short 13
-unfoldable pub of_wrote : Wrote → Written
-of_wrote (End next) = record { refusal = 0; length = next }
-of_wrote TooHigh = record { refusal = number_of FrequencyTooHigh; length = 0 }
-of_wrote Short = record { refusal = number_of ShortOutput; length = 0 }
-
 pub record WroteMhz (r : Written) (was now : List ℕ) (hz : ℕ) : Type 0 where
-  pub answer : r ≡ of_wrote (answer_to hz 0 was)
+  pub answer : r ≡ of_written (answer_to hz 0 was)
   pub output : now ≡ output_by (answer_to hz 0 was) hz 0 was

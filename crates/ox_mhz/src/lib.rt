@@ -3,13 +3,14 @@
 #![tactic(auto)]
 
 ghost use Rattle.std.specs.Prelude.{◌≡◌};
-ghost use Rattle.ox_mhz.specs.Frequencies.{untuned_of, of_hz, frequency_of, of_wrote, WroteMhz};
+ghost use Rattle.ox_mhz.specs.Frequencies.{untuned_of, of_hz, frequency_of, WroteMhz};
 
-use mhz::{Hz, Wrote};
+use mhz::Hz;
 use ox_text::Written;
-use refusals::{Refusal, Verdict, check_text, number, place};
+use refusals::{Refusal, check_text, number, place};
 
 // Not `present` where the text is no number, or one below zero.
+// Kept: C takes no Option, so whether there is one is a field.
 #[repr(C)]
 #[derive(Clone, Copy)]
 pub struct Frequency {
@@ -19,65 +20,52 @@ pub struct Frequency {
     pub hz: u64,
 }
 
-fn untuned(why: Refusal) -> Frequency
-    ensures { result ≡ untuned_of why }
-{
-    Frequency {
-        refusal: number(why),
-        place: place(why),
-        present: false,
-        hz: 0,
+impl From<Refusal> for Frequency {
+    ghost from_gives = { λ why r. r ≡ untuned_of why };
+
+    #[tactic(auto, unfolding(crate::specs::Frequencies::untuned_of))]
+    fn from(why: Refusal) -> Frequency {
+        Frequency {
+            refusal: number(why),
+            place: place(why),
+            present: false,
+            hz: 0,
+        }
     }
 }
 
-fn of_hz(hz: Hz) -> Frequency
-    ensures { result ≡ of_hz hz }
-{
-    match hz {
-        Hz::Absent => Frequency {
-            refusal: 0,
-            place: 0,
-            present: false,
-            hz: 0,
-        },
-        Hz::Is(n) => Frequency {
-            refusal: 0,
-            place: 0,
-            present: true,
-            hz: n,
-        },
-        Hz::Outside => untuned(Refusal::InexactFrequency),
+impl From<Hz> for Frequency {
+    ghost from_gives = { λ hz r. r ≡ of_hz hz };
+
+    #[tactic(auto, unfolding(crate::specs::Frequencies::of_hz))]
+    fn from(hz: Hz) -> Frequency {
+        match hz {
+            Hz::Absent => Frequency {
+                refusal: 0,
+                place: 0,
+                present: false,
+                hz: 0,
+            },
+            Hz::Is(n) => Frequency {
+                refusal: 0,
+                place: 0,
+                present: true,
+                hz: n,
+            },
+            Hz::Outside => Frequency::from(Refusal::InexactFrequency),
+        }
     }
 }
 
 // As rigflow's `mhz_string_to_hz`.
+#[tactic(auto, unfolding(crate::specs::Frequencies::frequency_of))]
 #[unsafe(no_mangle)]
 pub extern "C" fn ox_mhz_to_hz(mhz: &[u8]) -> Frequency
     ensures { result ≡ frequency_of mhz.now }
 {
-    let verdict = check_text(mhz);
-    match verdict {
-        Verdict::Refused(why) => untuned(why),
-        Verdict::Accepted => of_hz(mhz::mhz_string_to_hz(mhz)),
-    }
-}
-
-fn of_wrote(wrote: Wrote) -> Written
-    ensures { result ≡ of_wrote wrote }
-{
-    match wrote {
-        Wrote::End(next) => Written {
-            refusal: 0,
-            length: next,
-        },
-        Wrote::TooHigh => Written {
-            refusal: number(Refusal::FrequencyTooHigh),
-            length: 0,
-        },
-        Wrote::Short => Written {
-            refusal: number(Refusal::ShortOutput),
-            length: 0,
-        },
+    match check_text(mhz) {
+        Err(why) => Frequency::from(why),
+        Ok(()) => Frequency::from(mhz::mhz_string_to_hz(mhz)),
     }
 }
 
@@ -86,5 +74,5 @@ fn of_wrote(wrote: Wrote) -> Written
 pub extern "C" fn ox_hz_to_mhz(hz: u64, out: &mut [u8]) -> Written
     ensures { WroteMhz result out.old out.new hz }
 {
-    of_wrote(mhz::hz_to_mhz_string(hz, out, 0))
+    Written::from(mhz::hz_to_mhz_string(hz, out, 0))
 }

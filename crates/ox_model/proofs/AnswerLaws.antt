@@ -1,14 +1,12 @@
 -- The answers of `specs/Answers.antt`. Assumes nothing.
+use Rattle.std.specs.Prelude.{⊤, Option, Some, None, Result, Ok, Err}
+use Rattle.std.specs.Option.{unwrap_or}
 use mathlib.Core.Path.{◌≡◌, refl, ap, ◌∙◌}
 use mathlib.Core.List.{List}
 use Prim.Native.Nat.{ℕ}
 use Rattle.refusals.specs.Refusals.{number_of, place_of, of_text}
 use Rattle.refusals.specs.declared.Refusal.{Refusal}
-use Rattle.refusals.specs.declared.Verdict.{Verdict}
-use Rattle.refusals.specs.declared.Verdict.TheVariants.{Accepted, Refused}
 use Rattle.refusals.proofs.TextLaws.{too_long}
-use Rattle.tables.specs.declared.Found.{Found}
-use Rattle.tables.specs.declared.Found.TheVariants.{At, Nothing}
 use Rattle.columns.specs.Columns.{column_named}
 use Rattle.model.specs.Answer.{normalized_to}
 use Rattle.model.specs.declared.Answer.{Answer}
@@ -18,29 +16,26 @@ use Rattle.ox_model.specs.Answers.{column_number, column_by, column_answer, Long
 use Rattle.ox_model.specs.declared.ColumnAnswer.{ColumnAnswer}
 use Rattle.ox_model.specs.declared.QsoAnswer.{QsoAnswer}
 
-module _ (f : Found) where
-  pub a_column : (k : ℕ) → f ≡ At k → k ≡ column_number f
-  a_column k h = rw h refl
+number_is : (f : Option ℕ) → unwrap_or f 13 ≡ column_number f
+number_is (Some k) = refl
+number_is None = refl
 
-  pub no_column : f ≡ Nothing → 13 ≡ column_number f
-  no_column h = rw h refl
-
-module _ (name : List ℕ) (v : Verdict) (e : v ≡ of_text name) where
-  pub column_refused : (why : Refusal) (n p : ℕ) → v ≡ Refused why → n ≡ number_of why → p ≡ place_of why
+module _ (name : List ℕ) (v : Result ⊤ Refusal) (e : v ≡ of_text name) where
+  pub column_refused : (why : Refusal) (n p : ℕ) → v ≡ Err why → n ≡ number_of why → p ≡ place_of why
       → ◌≡◌ {A = ColumnAnswer} (record { refusal = n; place = p; column = 0 }) (column_answer name)
   unfolding column_answer column_by
   column_refused why n p h en ep = rw (← e, h, en, ep) refl
 
-  pub column_accepted : (f : Found) (k : ℕ) → v ≡ Accepted → f ≡ column_named name → k ≡ column_number f
+  pub column_accepted : (f : Option ℕ) (k : ℕ) → v ≡ Ok tt → f ≡ column_named name → k ≡ unwrap_or f 13
       → ◌≡◌ {A = ColumnAnswer} (record { refusal = 0; place = 0; column = k }) (column_answer name)
   unfolding column_answer column_by
-  column_accepted f k h ef ek = rw (← e, h, ← ef, ek) refl
+  column_accepted f k h ef ek = rw (← e, h, ← ef, ek, number_is f) refl
 
 long_refused : LongRefused
 unfolding LongRefused column_answer column_by
 long_refused name h = rw (← too_long name h) refl
 
-pub refused_is : (v : Verdict) (why : Refusal) (n : ℕ) → v ≡ Refused why → n ≡ number_of why → n ≡ refusal_of v
+pub refused_is : (v : Result ⊤ Refusal) (why : Refusal) (n : ℕ) → v ≡ Err why → n ≡ number_of why → n ≡ refusal_of v
 refused_is v why n e h = rw e h
 
 pub answer_is : (a : Answer) (n : ℕ) → n ≡ refusal_of a.verdict → ◌≡◌ {A = QsoAnswer} (record { refusal = n; qso = a.qso }) (answer_of a)

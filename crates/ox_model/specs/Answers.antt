@@ -1,10 +1,7 @@
 -- The answers of mapping and normalising, and of the columns' names, as numbers.
-use Rattle.std.specs.Prelude.{◌≡◌, List, ℕ, ◌<◌, length}
+use Rattle.refusals.specs.declared.Refusal.{Refusal}
+use Rattle.std.specs.Prelude.{◌≡◌, List, ℕ, ◌<◌, length, ⊤, Option, Some, None, Result, Ok, Err}
 use Rattle.refusals.specs.Refusals.{number_of, place_of, of_text}
-use Rattle.refusals.specs.declared.Verdict.{Verdict}
-use Rattle.refusals.specs.declared.Verdict.TheVariants.{Accepted, Refused}
-use Rattle.tables.specs.declared.Found.{Found}
-use Rattle.tables.specs.declared.Found.TheVariants.{At, Nothing}
 use Rattle.columns.specs.Columns.{column_named}
 use Rattle.model.specs.Answer.{normalized_to}
 use Rattle.model.specs.declared.Answer.{Answer}
@@ -14,14 +11,14 @@ use Rattle.ox_model.specs.declared.ColumnAnswer.{ColumnAnswer}
 use Rattle.ox_model.specs.declared.QsoAnswer.{QsoAnswer}
 
 -- 13 for no column
-abbrev pub column_number : Found → ℕ
-column_number (At k) = k
-column_number Nothing = 13
+abbrev pub column_number : Option ℕ → ℕ
+column_number (Some k) = k
+column_number None = 13
 
 -- by the verdict on the name: its refusal with the place, or the column
-unfoldable pub column_by : Verdict → Found → ColumnAnswer
-column_by (Refused why) found = record { refusal = number_of why; place = place_of why; column = 0 }
-column_by Accepted found = record { refusal = 0; place = 0; column = column_number found }
+unfoldable pub column_by : Result ⊤ Refusal → Option ℕ → ColumnAnswer
+column_by (Err why) found = record { refusal = number_of why; place = place_of why; column = 0 }
+column_by (Ok tt) found = record { refusal = 0; place = 0; column = column_number found }
 
 unfoldable pub column_answer : List ℕ → ColumnAnswer
 column_answer name = column_by (of_text name) (column_named name)
@@ -31,9 +28,9 @@ unfoldable pub LongRefused : Type 0
 LongRefused = (name : List ℕ) → 16777216 < length name → column_answer name ≡ record { refusal = 1; place = 0; column = 0 }
 
 -- 0 for no refusal
-abbrev pub refusal_of : Verdict → ℕ
-refusal_of Accepted = 0
-refusal_of (Refused why) = number_of why
+abbrev pub refusal_of : Result ⊤ Refusal → ℕ
+refusal_of (Ok tt) = 0
+refusal_of (Err why) = number_of why
 
 unfoldable pub answer_of : Answer → QsoAnswer
 answer_of a = record { refusal = refusal_of a.verdict; qso = a.qso }

@@ -1,5 +1,5 @@
 -- Worked examples.
-use Rattle.std.specs.Prelude.{◌≡◌, refl, [], ◌∷◌}
+use Rattle.std.specs.Prelude.{◌≡◌, refl, [], ◌∷◌, Some, Err}
 use Rattle.text.specs.Ascii.{ascii}
 use Rattle.text.specs.Walk.{lead}
 use Rattle.text.specs.Utf8.{valid_up_to, char_len, long_char, second3, second4}
@@ -7,9 +7,7 @@ use Rattle.letters.specs.Capitals.{raised}
 use Rattle.letters.specs.Same.{same_raised}
 use Rattle.refusals.specs.Refusals.{of_text}
 use Rattle.refusals.specs.declared.Refusal.TheVariants.{TooLong}
-use Rattle.refusals.specs.declared.Verdict.TheVariants.{Refused}
 use Rattle.tables.specs.Table.{named}
-use Rattle.tables.specs.declared.Found.TheVariants.{At}
 use Rattle.columns.specs.Columns.{column_names, column_named, time_on}
 use Rattle.ox_model.specs.Answers.{column_by, column_answer}
 
@@ -27,6 +25,6 @@ unfolding column_answer column_by of_text valid_up_to lead char_len long_char se
 no_text = refl
 
 -- a name that is too long names no column
-too_long : column_by (Refused TooLong) (At time_on) ≡ record { refusal = 1; place = 0; column = 0 }
+too_long : column_by (Err TooLong) (Some time_on) ≡ record { refusal = 1; place = 0; column = 0 }
 unfolding column_by
 too_long = refl

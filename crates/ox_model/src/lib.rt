@@ -2,11 +2,10 @@
 #![tactic(auto)]
 
 ghost use Rattle.std.specs.Prelude.{◌≡◌};
-ghost use Rattle.ox_model.specs.Answers.{column_number, column_answer, refusal_of, answer_of, map_answer, map_normal_answer, normalize_answer};
+ghost use Rattle.ox_model.specs.Answers.{column_answer, refusal_of, answer_of, map_answer, map_normal_answer, normalize_answer};
 
 use model::{Answer, Qso};
-use refusals::Verdict;
-use tables::Found;
+use refusals::Refusal;
 
 // The QSO, and the number of the refusal, or 0. Refused with 15 a mapping gives the QSO with both frequencies absent, with another number
 // an empty QSO; normalising gives a refused QSO back unchanged.
@@ -26,51 +25,41 @@ pub struct ColumnAnswer {
     pub column: u32,
 }
 
-fn column_number(found: Found) -> u32
-    ensures { result ≡ column_number found }
-{
-    match found {
-        Found::At(k) => k,
-        Found::Nothing => 13,
-    }
-}
-
 // A name is a plain text: one that is too long or no UTF-8 is refused, and is no extra field.
 #[unsafe(no_mangle)]
 pub extern "C" fn ox_column(name: &[u8]) -> ColumnAnswer
     ensures { result ≡ column_answer name.now }
 {
-    let verdict = refusals::check_text(name);
-    match verdict {
-        Verdict::Refused(why) => ColumnAnswer {
+    match refusals::check_text(name) {
+        Err(why) => ColumnAnswer {
             refusal: refusals::number(why),
             place: refusals::place(why),
             column: 0,
         },
-        Verdict::Accepted => ColumnAnswer {
+        Ok(()) => ColumnAnswer {
             refusal: 0,
             place: 0,
-            column: column_number(columns::column_of(name)),
+            column: columns::column_of(name).unwrap_or(13),
         },
     }
 }
 
-fn refusal_of(verdict: Verdict) -> u32
+fn refusal_of(verdict: Result<(), Refusal>) -> u32
     ensures { result ≡ refusal_of verdict }
 {
     match verdict {
-        Verdict::Accepted => 0,
-        Verdict::Refused(why) => refusals::number(why),
+        Ok(()) => 0,
+        Err(why) => refusals::number(why),
     }
 }
 
 fn answer_of(answer: Answer) -> QsoAnswer
     ensures { result ≡ answer_of answer }
 {
-    let qso = answer.qso;
-    let verdict = answer.verdict;
-    let refusal = refusal_of(verdict);
-    QsoAnswer { refusal, qso }
+    QsoAnswer {
+        refusal: refusal_of(answer.verdict),
+        qso: answer.qso,
+    }
 }
 
 // As `record_to_qso`, of `count` rows from row `first` on.

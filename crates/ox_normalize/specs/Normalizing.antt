@@ -1,5 +1,6 @@
 -- The answers of the calls on bands, modes and classes, as numbers.
-use Rattle.std.specs.Prelude.{ℕ, Bool, true, false, List, length, ltb}
+use Rattle.tables.specs.declared.ModeClass.{ModeClass}
+use Rattle.std.specs.Prelude.{ℕ, Bool, true, false, List, length, ltb, Option, Some, None, Result, Ok, Err}
 use Rattle.text.specs.Pick.{pick}
 use Rattle.refusals.specs.Refusals.{number_of, place_of, of_text, of_texts}
 use Rattle.refusals.specs.declared.Refusal.{Refusal}
@@ -12,8 +13,6 @@ use Rattle.normalize.specs.Classes.{class_number, class_numbered, class_name, cl
 use Rattle.tables.specs.declared.Place.{Place}
 use Rattle.tables.specs.declared.Name.{Name}
 use Rattle.tables.specs.declared.Span.{Span}
-use Rattle.normalize.specs.declared.Classed.{Classed}
-use Rattle.normalize.specs.declared.Classed.TheVariants.{In, Unclassed}
 use Rattle.ox_text.specs.Texts.{answer, untold_of, told_of}
 use Rattle.ox_text.specs.declared.Told.{Told}
 use Rattle.ox_normalize.specs.declared.Placed.{Placed}
@@ -52,9 +51,14 @@ normalize_of m s given = answer unnormalized_of (normalized_of m s given) (of_te
 unfoldable pub unclassified_of : Refusal → Classified
 unclassified_of why = record { refusal = number_of why; place = place_of why; present = false; class = 0 }
 
-unfoldable pub classified_of : Classed → Classified
-classified_of (In c) = record { refusal = 0; place = 0; present = true; class = class_number c }
-classified_of Unclassed = record { refusal = 0; place = 0; present = false; class = 0 }
+unfoldable pub classified_of : Option ModeClass → Classified
+classified_of (Some c) = record { refusal = 0; place = 0; present = true; class = class_number c }
+classified_of None = record { refusal = 0; place = 0; present = false; class = 0 }
+
+-- the class that was looked for, or why it was not
+unfoldable pub classified_by : Result (Option ModeClass) Refusal → Classified
+classified_by (Err why) = unclassified_of why
+classified_by (Ok c) = classified_of c
 
 unfoldable pub mode_class_of : List ℕ → Classified
 mode_class_of s = answer unclassified_of (classified_of (class_of s)) (of_text s)

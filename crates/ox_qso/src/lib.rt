@@ -7,7 +7,7 @@ ghost use Rattle.qsowriter.specs.Writing.{written_to, output_after};
 ghost use Rattle.ox_qso.specs.Answers.{of_written};
 
 use model::Qso;
-use refusals::{Written, number};
+use refusals::{Refusal, number};
 
 // How many bytes were written, or the number of the refusal and none; and the QSO, unchanged.
 #[repr(C)]
@@ -18,16 +18,16 @@ pub struct QsoWritten {
     pub qso: Qso,
 }
 
-fn answer_of(written: Written, qso: Qso) -> QsoWritten
+fn answer_of(written: Result<usize, Refusal>, qso: Qso) -> QsoWritten
     ensures { result ≡ of_written written qso }
 {
     match written {
-        Written::Bytes(n) => QsoWritten {
+        Ok(n) => QsoWritten {
             refusal: 0,
             length: n,
             qso,
         },
-        Written::Unwritten(why) => QsoWritten {
+        Err(why) => QsoWritten {
             refusal: number(why),
             length: 0,
             qso,
@@ -49,7 +49,5 @@ pub extern "C" fn ox_write_qso(
     ensures out_after { out.new ≡ output_after text.now qso table.now count out.old }
 {
     let answer = qsowriter::write_qso(text, qso, table, count, out);
-    let written = answer.written;
-    let same = answer.qso;
-    answer_of(written, same)
+    answer_of(answer.written, answer.qso)
 }

@@ -1,10 +1,9 @@
 -- The answer of the call that reads, as numbers.
-use Rattle.std.specs.Prelude.{List, ℕ}
+use Rattle.reader.specs.declared.Reading.{Reading}
+use Rattle.std.specs.Prelude.{List, ℕ, Result, Ok, Err}
 use Rattle.refusals.specs.Refusals.{number_of, place_of, name_of, name_length_of, wanted_of, left_of}
 use Rattle.refusals.specs.declared.Refusal.{Refusal}
 use Rattle.reader.specs.Table.{answer_to}
-use Rattle.reader.specs.declared.Reading.{Reading}
-use Rattle.reader.specs.declared.Reading.TheVariants.{Read, Refused}
 use Rattle.ox_reader.specs.declared.ReadAnswer.{ReadAnswer}
 
 unfoldable pub unread_of : Refusal → ReadAnswer
@@ -20,10 +19,10 @@ unread_of why =
       rows = 0;
     }
 
-unfoldable pub of_reading : Reading → ReadAnswer
-of_reading (Read count used) =
-    record { refusal = 0; place = 0; name = 0; name_length = 0; wanted = 0; left = 0; records = count; rows = used }
-of_reading (Refused why) = unread_of why
+unfoldable pub of_reading : Result Reading Refusal → ReadAnswer
+of_reading (Ok r) =
+    record { refusal = 0; place = 0; name = 0; name_length = 0; wanted = 0; left = 0; records = r.records; rows = r.rows }
+of_reading (Err why) = unread_of why
 
 unfoldable pub read_answer : List ℕ → List ℕ → ReadAnswer
 read_answer text table = of_reading (answer_to text table)

@@ -24,44 +24,51 @@ pub struct ReadAnswer {
     pub rows: usize,
 }
 
-fn unread(why: Refusal) -> ReadAnswer
-    ensures { result ≡ unread_of why }
-{
-    ReadAnswer {
-        refusal: refusals::number(why),
-        place: refusals::place(why),
-        name: refusals::name(why),
-        name_length: refusals::name_length(why),
-        wanted: refusals::wanted(why),
-        left: refusals::left(why),
-        records: 0,
-        rows: 0,
+impl From<Refusal> for ReadAnswer {
+    ghost from_gives = { λ why r. r ≡ unread_of why };
+
+    #[tactic(auto, unfolding(crate::specs::Readings::unread_of))]
+    fn from(why: Refusal) -> ReadAnswer {
+        ReadAnswer {
+            refusal: refusals::number(why),
+            place: refusals::place(why),
+            name: refusals::name(why),
+            name_length: refusals::name_length(why),
+            wanted: refusals::wanted(why),
+            left: refusals::left(why),
+            records: 0,
+            rows: 0,
+        }
     }
 }
 
-fn of_reading(reading: Reading) -> ReadAnswer
-    ensures { result ≡ of_reading reading }
-{
-    match reading {
-        Reading::Read { records, rows } => ReadAnswer {
-            refusal: 0,
-            place: 0,
-            name: 0,
-            name_length: 0,
-            wanted: 0,
-            left: 0,
-            records: records,
-            rows: rows,
-        },
-        Reading::Refused(why) => unread(why),
+impl From<Result<Reading, Refusal>> for ReadAnswer {
+    ghost from_gives = { λ reading r. r ≡ of_reading reading };
+
+    #[tactic(auto, unfolding(crate::specs::Readings::of_reading))]
+    fn from(reading: Result<Reading, Refusal>) -> ReadAnswer {
+        match reading {
+            Ok(Reading { records, rows }) => ReadAnswer {
+                refusal: 0,
+                place: 0,
+                name: 0,
+                name_length: 0,
+                wanted: 0,
+                left: 0,
+                records,
+                rows,
+            },
+            Err(why) => ReadAnswer::from(why),
+        }
     }
 }
 
 // As `parse_adif`. After a refusal the table is zero throughout, and else past the rows.
+#[tactic(auto, unfolding(crate::specs::Readings::read_answer))]
 #[unsafe(no_mangle)]
 pub extern "C" fn ox_read(text: &[u8], table: &mut [u32]) -> ReadAnswer
     ensures value { result ≡ read_answer text.now table.old }
     ensures table_after { table.new ≡ table_after text.now table.old }
 {
-    of_reading(reader::read(text, table))
+    ReadAnswer::from(reader::read(text, table))
 }

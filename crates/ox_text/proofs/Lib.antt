@@ -1,3 +1,2 @@
-pub mod TextAnswers
 pub mod WriteAnswers
 pub mod Determined

@@ -1,22 +1,17 @@
 -- The answers of the calls on plain texts, as numbers.
-use Rattle.std.specs.Prelude.{ℕ, ◌+◌, Bool, true, false, List, length, drop, leb}
+use Rattle.std.specs.declared.cmp.Ordering.{Ordering}
+use Rattle.std.specs.declared.cmp.Ordering.TheVariants.{Less, Equal, Greater}
+use Rattle.decimal.specs.declared.Signed.{Signed}
+use Rattle.std.specs.Prelude.{ℕ, ◌+◌, Bool, true, false, List, length, drop, leb, ⊤, Option, Some, None, Result, Ok, Err}
 use Rattle.text.specs.Pick.{pick}
 use Rattle.text.specs.Walk.{ends}
 use Rattle.text.specs.Find.{other}
 use Rattle.text.specs.Space.{trim_start, trim_end, blank}
 use Rattle.letters.specs.Same.{same, same_raised}
 use Rattle.letters.specs.Order.{order_raised}
-use Rattle.letters.specs.declared.Order.{Order}
-use Rattle.letters.specs.declared.Order.TheVariants.{Less, Equal, Greater}
 use Rattle.decimal.specs.Decimal.{unsigned_of, signed_of}
-use Rattle.decimal.specs.declared.Unsigned.{Unsigned}
-use Rattle.decimal.specs.declared.Unsigned.TheVariants.{Is, Not}
-use Rattle.decimal.specs.declared.Signed.{Signed}
-use Rattle.decimal.specs.declared.Signed.TheVariants.{Of, Bad}
 use Rattle.refusals.specs.Refusals.{number_of, place_of, of_text, of_texts}
 use Rattle.refusals.specs.declared.Refusal.{Refusal}
-use Rattle.refusals.specs.declared.Verdict.{Verdict}
-use Rattle.refusals.specs.declared.Verdict.TheVariants.{Accepted, Refused}
 use Rattle.ox_text.specs.declared.Checked.{Checked}
 use Rattle.ox_text.specs.declared.Trimmed.{Trimmed}
 use Rattle.ox_text.specs.declared.Told.{Told}
@@ -25,9 +20,9 @@ use Rattle.ox_text.specs.declared.Found.{Found}
 use Rattle.ox_text.specs.declared.Numbered.{Numbered}
 
 -- an answer by the verdict on its texts: what a refusal gives, or what an accepted text gives
-abbrev pub answer : {A : Type 0} → (Refusal → A) → A → Verdict → A
-answer refused accepted (Refused why) = refused why
-answer refused accepted Accepted = accepted
+abbrev pub answer : {A : Type 0} → (Refusal → A) → A → Result ⊤ Refusal → A
+answer refused accepted (Err why) = refused why
+answer refused accepted (Ok tt) = accepted
 
 unfoldable pub check_of : List ℕ → Checked
 check_of s = answer (λ why. record { refusal = number_of why; place = place_of why }) (record { refusal = 0; place = length s }) (of_text s)
@@ -54,7 +49,7 @@ same_of a b = answer untold_of (told_of (same a b)) (of_texts a b)
 unfoldable pub same_raised_of : List ℕ → List ℕ → Told
 same_raised_of a b = answer untold_of (told_of (same_raised a b)) (of_texts a b)
 
-abbrev pub order_number : Order → ℕ
+abbrev pub order_number : Ordering → ℕ
 order_number Less = 0
 order_number Equal = 1
 order_number Greater = 2
@@ -81,13 +76,13 @@ unnumbered_of why = record { refusal = number_of why; place = place_of why; pres
 abbrev pub numbered_of : Bool → Bool → ℕ → Numbered
 numbered_of present negative size = record { refusal = 0; place = 0; present = present; negative = negative; size = size }
 
-unfoldable pub of_unsigned : Unsigned → Numbered
-of_unsigned (Is n) = numbered_of true false n
-of_unsigned Not = numbered_of false false 0
+unfoldable pub of_unsigned : Option ℕ → Numbered
+of_unsigned (Some n) = numbered_of true false n
+of_unsigned None = numbered_of false false 0
 
-unfoldable pub of_signed : Signed → Numbered
-of_signed (Of negative n) = numbered_of true negative n
-of_signed Bad = numbered_of false false 0
+unfoldable pub of_signed : Option Signed → Numbered
+of_signed (Some n') = numbered_of true n'.negative n'.size
+of_signed None = numbered_of false false 0
 
 unfoldable pub unsigned_answer : List ℕ → Numbered
 unsigned_answer s = answer unnumbered_of (of_unsigned (unsigned_of s)) (of_text s)

@@ -5,11 +5,11 @@
 ghost use Rattle.std.specs.Prelude.{◌≡◌, length};
 ghost use Rattle.decimal.specs.Digits.{decimal};
 ghost use Rattle.ox_text.specs.Texts.{check_of, trim_of, untold_of, blank_of, same_of, same_raised_of, order_number, order_of, find_from, find_of, unnumbered_of, of_unsigned, of_signed, unsigned_answer, signed_answer};
-ghost use Rattle.ox_text.specs.Writing.{Wrote};
+ghost use Rattle.ox_text.specs.Writing.{Wrote, of_written};
 
-use decimal::{Signed, Unsigned};
-use letters::Order;
-use refusals::{Refusal, Verdict, check_text, check_texts, number, place};
+use decimal::Signed;
+use refusals::{Refusal, check_text, check_texts, number, place};
+use std::cmp::Ordering;
 
 // `place` is the first bad byte's after 2, and the length of an accepted text.
 #[repr(C)]
@@ -53,6 +53,7 @@ pub struct Found {
     pub at: usize,
 }
 
+// Kept: C takes no Option, so whether there is one is a field.
 #[repr(C)]
 #[derive(Clone, Copy)]
 pub struct Numbered {
@@ -70,40 +71,55 @@ pub struct Written {
     pub length: usize,
 }
 
+impl From<Result<usize, Refusal>> for Written {
+    ghost from_gives = { λ written r. r ≡ of_written written };
+
+    #[tactic(auto, unfolding(crate::specs::Writing::of_written))]
+    fn from(written: Result<usize, Refusal>) -> Written {
+        match written {
+            Ok(length) => Written { refusal: 0, length },
+            Err(why) => Written {
+                refusal: number(why),
+                length: 0,
+            },
+        }
+    }
+}
+
+#[tactic(auto, unfolding(crate::specs::Texts::check_of))]
 pub fn ox_text_check(s: &[u8]) -> Checked
     ensures { result ≡ check_of s.now }
 {
-    let verdict = check_text(s);
-    match verdict {
-        Verdict::Refused(why) => Checked {
+    match check_text(s) {
+        Err(why) => Checked {
             refusal: number(why),
             place: place(why),
         },
-        Verdict::Accepted => Checked {
+        Ok(()) => Checked {
             refusal: 0,
             place: s.len(),
         },
     }
 }
 
+#[tactic(auto, unfolding(crate::specs::Texts::trim_of))]
 pub fn ox_text_trim(s: &[u8]) -> Trimmed
     ensures { result ≡ trim_of s.now }
 {
-    let verdict = check_text(s);
-    match verdict {
-        Verdict::Refused(why) => Trimmed {
+    match check_text(s) {
+        Err(why) => Trimmed {
             refusal: number(why),
             place: place(why),
             start: 0,
             end: 0,
         },
-        Verdict::Accepted => {
+        Ok(()) => {
             let start = text::space::trim_start(s);
             let kept = text::space::trim_end(&s[start..]);
             Trimmed {
                 refusal: 0,
                 place: 0,
-                start: start,
+                start,
                 end: start + kept,
             }
         }
@@ -111,6 +127,7 @@ pub fn ox_text_trim(s: &[u8]) -> Trimmed
 }
 
 // A test that a refusal leaves unanswered.
+#[tactic(auto, unfolding(crate::specs::Texts::untold_of))]
 pub fn untold(why: Refusal) -> Told
     ensures { result ≡ untold_of why }
 {
@@ -121,13 +138,13 @@ pub fn untold(why: Refusal) -> Told
     }
 }
 
+#[tactic(auto, unfolding(crate::specs::Texts::blank_of))]
 pub fn ox_text_blank(s: &[u8]) -> Told
     ensures { result ≡ blank_of s.now }
 {
-    let verdict = check_text(s);
-    match verdict {
-        Verdict::Refused(why) => untold(why),
-        Verdict::Accepted => Told {
+    match check_text(s) {
+        Err(why) => untold(why),
+        Ok(()) => Told {
             refusal: 0,
             place: 0,
             yes: text::space::is_blank(s),
@@ -135,13 +152,13 @@ pub fn ox_text_blank(s: &[u8]) -> Told
     }
 }
 
+#[tactic(auto, unfolding(crate::specs::Texts::same_of))]
 pub fn ox_text_same(a: &[u8], b: &[u8]) -> Told
     ensures { result ≡ same_of a.now b.now }
 {
-    let verdict = check_texts(a, b);
-    match verdict {
-        Verdict::Refused(why) => untold(why),
-        Verdict::Accepted => Told {
+    match check_texts(a, b) {
+        Err(why) => untold(why),
+        Ok(()) => Told {
             refusal: 0,
             place: 0,
             yes: letters::same(a, b),
@@ -150,13 +167,13 @@ pub fn ox_text_same(a: &[u8], b: &[u8]) -> Told
 }
 
 // The case of ASCII letters aside.
+#[tactic(auto, unfolding(crate::specs::Texts::same_raised_of))]
 pub fn ox_text_same_raised(a: &[u8], b: &[u8]) -> Told
     ensures { result ≡ same_raised_of a.now b.now }
 {
-    let verdict = check_texts(a, b);
-    match verdict {
-        Verdict::Refused(why) => untold(why),
-        Verdict::Accepted => Told {
+    match check_texts(a, b) {
+        Err(why) => untold(why),
+        Ok(()) => Told {
             refusal: 0,
             place: 0,
             yes: letters::same_raised(a, b),
@@ -164,28 +181,29 @@ pub fn ox_text_same_raised(a: &[u8], b: &[u8]) -> Told
     }
 }
 
-fn order_number(o: Order) -> u32
+// Kept: both types are std's.
+fn order_number(o: Ordering) -> u32
     ensures { result ≡ order_number o }
 {
     match o {
-        Order::Less => 0,
-        Order::Equal => 1,
-        Order::Greater => 2,
+        Ordering::Less => 0,
+        Ordering::Equal => 1,
+        Ordering::Greater => 2,
     }
 }
 
 // The byte order of the two in capitals.
+#[tactic(auto, unfolding(crate::specs::Texts::order_of))]
 pub fn ox_text_order_raised(a: &[u8], b: &[u8]) -> Ordered
     ensures { result ≡ order_of a.now b.now }
 {
-    let verdict = check_texts(a, b);
-    match verdict {
-        Verdict::Refused(why) => Ordered {
+    match check_texts(a, b) {
+        Err(why) => Ordered {
             refusal: number(why),
             place: place(why),
             order: 0,
         },
-        Verdict::Accepted => Ordered {
+        Ok(()) => Ordered {
             refusal: 0,
             place: 0,
             order: order_number(letters::order_raised(a, b)),
@@ -194,6 +212,7 @@ pub fn ox_text_order_raised(a: &[u8], b: &[u8]) -> Ordered
 }
 
 // The first place from `from` on where b stands, or the length.
+#[tactic(auto, unfolding(crate::specs::Texts::find_from))]
 fn find_from(s: &[u8], from: usize, b: u8) -> usize
     ensures { result ≡ find_from s.now from b }
 {
@@ -204,17 +223,17 @@ fn find_from(s: &[u8], from: usize, b: u8) -> usize
     }
 }
 
+#[tactic(auto, unfolding(crate::specs::Texts::find_of))]
 pub fn ox_text_find(s: &[u8], from: usize, b: u8) -> Found
     ensures { result ≡ find_of s.now from b }
 {
-    let verdict = check_text(s);
-    match verdict {
-        Verdict::Refused(why) => Found {
+    match check_text(s) {
+        Err(why) => Found {
             refusal: number(why),
             place: place(why),
             at: 0,
         },
-        Verdict::Accepted => Found {
+        Ok(()) => Found {
             refusal: 0,
             place: 0,
             at: find_from(s, from, b),
@@ -222,6 +241,7 @@ pub fn ox_text_find(s: &[u8], from: usize, b: u8) -> Found
     }
 }
 
+#[tactic(auto, unfolding(crate::specs::Texts::unnumbered_of))]
 fn unnumbered(why: Refusal) -> Numbered
     ensures { result ≡ unnumbered_of why }
 {
@@ -234,67 +254,53 @@ fn unnumbered(why: Refusal) -> Numbered
     }
 }
 
-fn of_unsigned(n: Unsigned) -> Numbered
-    ensures { result ≡ of_unsigned n }
+#[tactic(auto, unfolding(crate::specs::Texts::of_signed))]
+fn of_signed(n: Option<Signed>) -> Numbered
+    ensures { result ≡ of_signed n }
 {
-    match n {
-        Unsigned::Is(size) => Numbered {
-            refusal: 0,
-            place: 0,
-            present: true,
-            negative: false,
-            size: size,
-        },
-        Unsigned::Not => Numbered {
-            refusal: 0,
-            place: 0,
-            present: false,
-            negative: false,
-            size: 0,
-        },
+    let present = n.is_some();
+    let Signed { negative, size } = n.unwrap_or(Signed {
+        negative: false,
+        size: 0,
+    });
+    Numbered {
+        refusal: 0,
+        place: 0,
+        present,
+        negative,
+        size,
     }
 }
 
-fn of_signed(n: Signed) -> Numbered
-    ensures { result ≡ of_signed n }
+#[tactic(auto, unfolding(crate::specs::Texts::of_unsigned, crate::specs::Texts::of_signed))]
+fn of_unsigned(n: Option<u64>) -> Numbered
+    ensures { result ≡ of_unsigned n }
 {
-    match n {
-        Signed::Of { negative, size } => Numbered {
-            refusal: 0,
-            place: 0,
-            present: true,
-            negative: negative,
-            size: size,
-        },
-        Signed::Bad => Numbered {
-            refusal: 0,
-            place: 0,
-            present: false,
-            negative: false,
-            size: 0,
-        },
-    }
+    of_signed(n.map(|size| Signed {
+        negative: false,
+        size,
+    }))
 }
 
 // As Rust's `parse::<u64>`.
+#[tactic(auto, unfolding(crate::specs::Texts::unsigned_answer))]
 pub fn ox_text_unsigned(s: &[u8]) -> Numbered
     ensures { result ≡ unsigned_answer s.now }
 {
-    let verdict = check_text(s);
-    match verdict {
-        Verdict::Refused(why) => unnumbered(why),
-        Verdict::Accepted => of_unsigned(decimal::parse_unsigned(s)),
+    match check_text(s) {
+        Err(why) => unnumbered(why),
+        Ok(()) => of_unsigned(decimal::parse_unsigned(s)),
     }
 }
 
 // As Rust's `parse::<i64>`.
+#[tactic(auto, unfolding(crate::specs::Texts::signed_answer))]
 pub fn ox_text_signed(s: &[u8]) -> Numbered
     ensures { result ≡ signed_answer s.now }
 {
-    let verdict = check_text(s);
-    match verdict {
-        Verdict::Refused(why) => unnumbered(why),
-        Verdict::Accepted => of_signed(decimal::parse_signed(s)),
+    match check_text(s) {
+        Err(why) => unnumbered(why),
+        Ok(()) => of_signed(decimal::parse_signed(s)),
     }
 }
 
@@ -310,8 +316,5 @@ pub fn ox_text_digits(n: u64, out: &mut [u8]) -> Written
         };
     }
     let length = output::put_decimal(out, 0, n);
-    Written {
-        refusal: 0,
-        length: length,
-    }
+    Written { refusal: 0, length }
 }

@@ -1,2 +1,1 @@
-pub mod WriteAnswers
 pub mod Determined

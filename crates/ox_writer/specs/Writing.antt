@@ -1,22 +1,15 @@
 -- The answers of the calls that write, as numbers.
-use Rattle.std.specs.Prelude.{◌≡◌, refl, List, ℕ, length}
-use Rattle.refusals.specs.Refusals.{number_of}
+use Rattle.refusals.specs.declared.Refusal.{Refusal}
+use Rattle.std.specs.Prelude.{◌≡◌, refl, List, ℕ, length, Result, Ok}
 use Rattle.refusals.specs.Written.{fitted}
-use Rattle.refusals.specs.declared.Written.{Written}
-use Rattle.refusals.specs.declared.Written.TheVariants.{Bytes, Unwritten}
 use Rattle.headers.specs.Headers.{journal_header, export_header}
 use Rattle.headers.specs.Answer.{answer_of, all_utf8}
-use Rattle.ox_text.specs.declared.Written as c
+use Rattle.ox_text.specs.Writing.{of_written}
 
--- how many bytes were written, or the refusal's number
-unfoldable pub of_written : Written → c.Written
-of_written (Bytes n) = record { refusal = 0; length = n }
-of_written (Unwritten why) = record { refusal = number_of why; length = 0 }
+unfoldable pub journal_answer : ℕ → Result ℕ Refusal
+journal_answer room = fitted (Ok (length journal_header)) room
 
-unfoldable pub journal_answer : ℕ → Written
-journal_answer room = fitted (Bytes (length journal_header)) room
-
-unfoldable pub export_answer : List ℕ → List ℕ → List ℕ → ℕ → Written
+unfoldable pub export_answer : List ℕ → List ℕ → List ℕ → ℕ → Result ℕ Refusal
 export_answer version program created room = answer_of (all_utf8 version program created) (export_header version program created) room
 
 -- the journal's header takes 45 bytes

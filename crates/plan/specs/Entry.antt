@@ -1,14 +1,11 @@
 -- A record of the file as the plan sees it: mapped and normalised.
-use Rattle.std.specs.Prelude.{Bool, true, false, List, [], ◌∷◌, map, ℕ, suc}
-use Rattle.refusals.specs.declared.Verdict.{Verdict}
-use Rattle.refusals.specs.declared.Verdict.TheVariants.{Accepted, Refused}
+use Rattle.refusals.specs.declared.Refusal.{Refusal}
+use Rattle.std.specs.Prelude.{Bool, true, false, List, [], ◌∷◌, map, ℕ, suc, ⊤, Option, None, Result, Ok, Err}
 use Rattle.adif.specs.Records.{records, refused}
 use Rattle.adif.specs.Reading.{Row as Field, RowsRead}
 use Rattle.hand.specs.Rows.{numbered}
 use Rattle.rowcheck.specs.Check.{Row}
 use Rattle.times.specs.Moments.{moment_of}
-use Rattle.times.specs.declared.Moment.{Moment}
-use Rattle.times.specs.declared.Moment.TheVariants.{Never}
 use Rattle.columns.specs.Columns
 use Rattle.model.specs.Contact.{place_of, column_text}
 use Rattle.model.specs.Normal.{normal_qso}
@@ -23,17 +20,17 @@ pub record Entry : Type 0 where
   pub call : List ℕ
   pub mode : List ℕ
   pub band : List ℕ
-  pub moment : Moment
+  pub moment : Option ℕ
   pub reason : ℕ
   pub answers : List Answer
 
 abbrev pub no_entry : Entry
-no_entry = record { call = []; mode = []; band = []; moment = Never; reason = 0; answers = [] }
+no_entry = record { call = []; mode = []; band = []; moment = None; reason = 0; answers = [] }
 
 -- refused with 15: a frequency is outside the exact window
-abbrev pub is_refused : Verdict → Bool
-is_refused Accepted = false
-is_refused (Refused why) = true
+abbrev pub is_refused : Result ⊤ Refusal → Bool
+is_refused (Ok tt) = false
+is_refused (Err why) = true
 
 unfoldable pub entry_with : List ℕ → List Row → Qso → Bool → Entry
 entry_with text rows q inexact = record {

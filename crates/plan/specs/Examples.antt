@@ -1,5 +1,5 @@
 -- Worked examples.
-use Rattle.std.specs.Prelude.{◌≡◌, refl, true, false, List, [], ◌∷◌, ℕ, pos}
+use Rattle.std.specs.Prelude.{◌≡◌, refl, true, false, List, [], ◌∷◌, ℕ, pos, Option, Some, None}
 use Rattle.text.specs.Ascii.{ascii}
 use Rattle.text.specs.Walk.{lead}
 use Rattle.text.specs.Space.{space1, space2, space3, space80, space_len, space_back, width, trim_start, trim_end, trimmed}
@@ -9,8 +9,6 @@ use Rattle.tables.specs.Place.{stands}
 use Rattle.times.specs.Calendar.{leap, year_days, month_days, days_before_year, days_before_month, is_day, day_number}
 use Rattle.times.specs.Moments.{date_of, clock_of, is_clock, seconds_of, moment_at, moment_of}
 use Rattle.times.specs.Window.{apart, reaches, is_within}
-use Rattle.times.specs.declared.Moment.{Moment}
-use Rattle.times.specs.declared.Moment.TheVariants.{At, Never}
 use Rattle.decimal.specs.Decimal.{digits_after, digits_of}
 use Rattle.dedupe.specs.Keys.{in_log, in_file}
 use Rattle.contacts.specs.Contacts.{Contact, contact, largest}
@@ -24,15 +22,15 @@ use Rattle.plan.specs.Confirmed.{has_bit, same_unmatched, alike, counts, counted
 use Rattle.plan.specs.Plan.{plan_from, planned, fates_of, total_of}
 
 -- a contact in SSB on 40m, at so many seconds, with these answers
-abbrev ssb : List ℕ → Moment → List Answer → Entry
+abbrev ssb : List ℕ → Option ℕ → List Answer → Entry
 ssb call moment answers = record { call = call; mode = ascii "SSB"; band = ascii "40m"; moment = moment; reason = 0; answers = answers }
 
 -- two records 1,800 seconds apart, and one without a call
 abbrev three : List Entry
 three =
-    ssb (ascii "W1AW") (At 5000) []
-    ∷ ssb (ascii "w1aw ") (At 6800) []
-    ∷ record { call = []; mode = []; band = []; moment = Never; reason = 1; answers = [] }
+    ssb (ascii "W1AW") (Some 5000) []
+    ∷ ssb (ascii "w1aw ") (Some 6800) []
+    ∷ record { call = []; mode = []; band = []; moment = None; reason = 1; answers = [] }
     ∷ []
 
 first_is_imported : fates_of (pos 1800) false [] three ≡ 1 ∷ 3 ∷ 4 ∷ []
@@ -50,13 +48,13 @@ unfolding fates_to fate_at fate_of found first_from
 download_ignores = refl
 
 -- what is unusable stays so, whatever it bears
-unusable_first : fates_of (pos 1800) false [] (record { call = []; mode = []; band = []; moment = Never; reason = 1; answers = record { present = true; service = 1; date = stands 10 8 } ∷ [] } ∷ []) ≡ 4 ∷ []
+unusable_first : fates_of (pos 1800) false [] (record { call = []; mode = []; band = []; moment = None; reason = 1; answers = record { present = true; service = 1; date = stands 10 8 } ∷ [] } ∷ []) ≡ 4 ∷ []
 unfolding fates_to fate_at fate_of repeats found first_from over
 unusable_first = refl
 
 -- only an importable record makes a later one a duplicate: the third is within the window of the second, which is none
 abbrev row : List Entry
-row = ssb (ascii "W1AW") (At 0) [] ∷ ssb (ascii "W1AW") (At 1800) [] ∷ ssb (ascii "W1AW") (At 3600) [] ∷ []
+row = ssb (ascii "W1AW") (Some 0) [] ∷ ssb (ascii "W1AW") (Some 1800) [] ∷ ssb (ascii "W1AW") (Some 3600) [] ∷ []
 
 third_is_imported : fates_of (pos 1800) false [] row ≡ 1 ∷ 3 ∷ 1 ∷ []
 unfolding fates_to fate_at fate_of repeats found first_from over in_file is_within reaches apart same_raised raised trimmed trim_start trim_end lead space_len space_back width space1 space2 space3 space80
@@ -74,10 +72,10 @@ by service place = record { present = true; service = service; date = stands pla
 -- lotw and eqsl for one contact, which has eqsl already; lotw for it once more; then lotw twice for a call that the log has not
 abbrev cards : List Entry
 cards =
-    ssb (ascii "W1AW") (At 1) (by 1 10 ∷ by 2 20 ∷ unanswered ∷ unanswered ∷ [])
-    ∷ ssb (ascii "w1aw") (At 2) (by 1 30 ∷ unanswered ∷ unanswered ∷ unanswered ∷ [])
-    ∷ ssb (ascii "K1ABC") (At 3) (by 1 50 ∷ unanswered ∷ unanswered ∷ unanswered ∷ [])
-    ∷ ssb (ascii " k1abc") (At 90000) (by 1 70 ∷ unanswered ∷ unanswered ∷ unanswered ∷ [])
+    ssb (ascii "W1AW") (Some 1) (by 1 10 ∷ by 2 20 ∷ unanswered ∷ unanswered ∷ [])
+    ∷ ssb (ascii "w1aw") (Some 2) (by 1 30 ∷ unanswered ∷ unanswered ∷ unanswered ∷ [])
+    ∷ ssb (ascii "K1ABC") (Some 3) (by 1 50 ∷ unanswered ∷ unanswered ∷ unanswered ∷ [])
+    ∷ ssb (ascii " k1abc") (Some 90000) (by 1 70 ∷ unanswered ∷ unanswered ∷ unanswered ∷ [])
     ∷ []
 
 -- year 0, January 1, 00:00
@@ -85,7 +83,7 @@ abbrev log : List Contact
 log = contact 7 2 (ascii "w1aw") (ascii "00000101") (ascii "0000") (ascii "40m") (ascii "SSB") ∷ []
 
 -- the log has W1AW in SSB on 40m; "W1AW " it has not
-in_the_log : fates_of (pos 1800) false log (ssb (ascii "W1AW") (At 1) [] ∷ ssb (ascii "W1AW ") (At 1) [] ∷ []) ≡ 2 ∷ 1 ∷ []
+in_the_log : fates_of (pos 1800) false log (ssb (ascii "W1AW") (Some 1) [] ∷ ssb (ascii "W1AW ") (Some 1) [] ∷ []) ≡ 2 ∷ 1 ∷ []
 unfolding fates_to fate_at fate_of repeats found first_from matches over in_file in_log is_within reaches apart same_raised raised trimmed trim_start trim_end lead space_len space_back width space1 space2 space3 space80 date_of clock_of is_clock seconds_of moment_at moment_of leap year_days month_days days_before_year days_before_month is_day day_number digits_after digits_of
 in_the_log = refl
 

@@ -1,25 +1,26 @@
 // What an import would do to a log. After `import.rs`. Here are the counts, which come from the fates alone.
 #![tactic(auto)]
 
-ghost use Rattle.std.specs.Prelude.{◌≡◌, ◌≤◌, length, get_or};
-ghost use Rattle.text.specs.Pick.{pick};
+ghost use Rattle.std.specs.Prelude.{◌≡◌, ◌≤◌, length};
 ghost use Rattle.plan.specs.Fates.{count, fates_in};
 ghost use Rattle.plan.specs.Plan.{total_of, counts_with};
 
 use summary::Counts;
 
-fn fate_in(row: [u32; 28]) -> u32
-    ensures { result ≡ get_or row 0 0 }
-{
-    row[0]
-}
+// The fates, as a lent table has them.
+pub const IMPORTABLE: u32 = 1;
 
-fn one_if(counts: bool) -> u64
-    ensures value { result ≡ pick counts 1 0 }
-    ensures upper_bound { result ≤ 1 }
-{
-    if counts { 1 } else { 0 }
-}
+pub const IN_LOG: u32 = 2;
+
+pub const IN_FILE: u32 = 3;
+
+pub const UNUSABLE: u32 = 4;
+
+pub const CONFIRMED: u32 = 5;
+
+pub const UNMATCHED: u32 = 6;
+
+pub const IGNORED: u32 = 7;
 
 // How many of the first n records have the fate.
 pub fn count_fate(rows: &[[u32; 28]], n: usize, fate: u32) -> u64
@@ -27,11 +28,9 @@ pub fn count_fate(rows: &[[u32; 28]], n: usize, fate: u32) -> u64
     ensures value { result ≡ count fate (fates_in rows.now n) }
     ensures upper_bound { result ≤ n }
 {
-    let mut found: u64 = 0;
-    let mut i = 0;
-    while i < n {
-        found += one_if(fate_in(rows[i]) == fate);
-        i += 1;
+    let mut found = 0;
+    for row in &rows[..n] {
+        found += u64::from(row[0] == fate);
     }
     found
 }
@@ -40,11 +39,11 @@ fn total_of(rows: &[[u32; 28]], n: usize) -> u64
     requires { (n ≤ length rows.now) × (n ≤ 65535) }
     ensures { result ≡ total_of (fates_in rows.now n) }
 {
-    let settled = count_fate(rows, n, 1)
-        + count_fate(rows, n, 2)
-        + count_fate(rows, n, 3)
-        + count_fate(rows, n, 4);
-    settled + count_fate(rows, n, 5) + count_fate(rows, n, 6) + count_fate(rows, n, 7)
+    let mut total = 0;
+    for fate in IMPORTABLE..=IGNORED {
+        total += count_fate(rows, n, fate);
+    }
+    total
 }
 
 // What the first n records of the table count, with the confirmations that they make.
@@ -58,14 +57,14 @@ pub fn counts_of(
     requires { (n ≤ length rows.now) × (n ≤ 65535) }
     ensures { result ≡ counts_with (fates_in rows.now n) confirmations already unmatched }
 {
-    let duplicates = count_fate(rows, n, 2) + count_fate(rows, n, 3);
+    let duplicates = count_fate(rows, n, IN_LOG) + count_fate(rows, n, IN_FILE);
     Counts {
         total: total_of(rows, n),
-        importable: count_fate(rows, n, 1),
+        importable: count_fate(rows, n, IMPORTABLE),
         confirmations,
         already_confirmed: already,
         duplicates,
         unmatched,
-        unusable: count_fate(rows, n, 4),
+        unusable: count_fate(rows, n, UNUSABLE),
     }
 }

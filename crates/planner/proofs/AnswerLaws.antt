@@ -1,4 +1,7 @@
 -- What a caller knows of a plan that was made. Assumes nothing.
+use Rattle.std.specs.Prelude.{Result, Ok, Err}
+use Rattle.contacts.specs.declared.Mark.{Mark}
+use Rattle.planner.specs.declared.Planned.{Planned}
 use mathlib.Core.Path.{◌≡◌, refl, sym, ap, ◌∙◌}
 use mathlib.Core.List.{List, [], ◌∷◌, ◌++◌}
 use Prim.Native.Nat.{ℕ, zero, suc, ◌/◌, ◌≤◌, ◌<◌}
@@ -14,8 +17,6 @@ use Rattle.chain.specs.Chain.{col}
 use Rattle.adif.specs.Records.{records, refused, total}
 use Rattle.adif.specs.Reading.{Row as Field, RowsRead}
 use Rattle.contacts.specs.Lists.{contacts_of}
-use Rattle.contacts.specs.declared.Listed.{Listed}
-use Rattle.contacts.specs.declared.Listed.TheVariants.{Marked, Refused as RefusedList}
 use Rattle.indexing.specs.Index.{indexed_as}
 use Rattle.plan.specs.Entry.{entries_of}
 use Rattle.plan.specs.Fates.{fates_in}
@@ -27,8 +28,6 @@ use Rattle.entries.proofs.FilledLaws.{entries_many}
 use Rattle.closing.specs.Closed.{fate_rows, padded}
 use Rattle.closing.proofs.PhaseLaws.{fates_are}
 use Rattle.planner.specs.Planning.{Asked, read_of, plan_for, made, planned_read, planned_by, planned_as, fates_by, PlannedTo}
-use Rattle.planner.specs.declared.Planned.{Planned}
-use Rattle.planner.specs.declared.Planned.TheVariants.{Made, Refused}
 
 pub record MadeOf (a : Asked) (n cards already unmatched : ℕ) : Type 0 where
   pub within : n ≤ a.records
@@ -38,12 +37,12 @@ pub record MadeOf (a : Asked) (n cards already unmatched : ℕ) : Type 0 where
   pub known : already ≡ (plan_for a (read_of a)).already
   pub strange : unmatched ≡ (plan_for a (read_of a)).unmatched
 
-refused_made : {P : Type 0} (why : Refusal) (n used c already unmatched contacts top : ℕ) → Refused why ≡ Made n used c already unmatched contacts top → P
+refused_made : {P : Type 0} (why : Refusal) (n used c already unmatched contacts top : ℕ) → ◌≡◌ {A = Result Planned Refusal} (Err why) (Ok (record { records = n; rows = used; confirmations = c; already = already; unmatched = unmatched; contacts = contacts; largest = top })) → P
 refused_made why n used c already unmatched contacts top e = absurd (let z : ◌≡◌ {A = ℕ} 0 1 = cc in omega arith)
 
 module _ (a : Asked) (n used c already unmatched contacts top : ℕ) where
-  abbrev answer : Planned
-  answer = Made n used c already unmatched contacts top
+  abbrev answer : Result Planned Refusal
+  answer = Ok (record { records = n; rows = used; confirmations = c; already = already; unmatched = unmatched; contacts = contacts; largest = top })
 
   every_fate : (rs : List (List Field)) → length (plan_for a (records rs)).fates ≡ length rs
   unfolding planned plan_from entries_of
@@ -58,11 +57,14 @@ module _ (a : Asked) (n used c already unmatched contacts top : ℕ) where
       cases (leb (length rs) a.records)
       (λ u. cases (leb (length (plan_for a (records rs)).confirmations) a.confirmations)
       (λ v.
-      let z : Made (length rs) (total rs) (length (plan_for a (records rs)).confirmations) (plan_for a (records rs)).already (plan_for a (records rs)).unmatched k t ≡ answer = rw (u, v) at e in
-      let y : length rs ≡ n = cc in
-      let x : length (plan_for a (records rs)).confirmations ≡ c = cc in
-      let w : (plan_for a (records rs)).already ≡ already = cc in
-      let o : (plan_for a (records rs)).unmatched ≡ unmatched = cc in
+      let z : Ok (record { records = length rs; rows = total rs; confirmations = length (plan_for a (records rs)).confirmations; already = (plan_for a (records rs)).already; unmatched = (plan_for a (records rs)).unmatched; contacts = k; largest = t }) ≡ answer = rw (u, v) at e in
+      let p : ◌≡◌ {A = Planned}
+      (record { records = length rs; rows = total rs; confirmations = length (plan_for a (records rs)).confirmations; already = (plan_for a (records rs)).already; unmatched = (plan_for a (records rs)).unmatched; contacts = k; largest = t })
+      (record { records = n; rows = used; confirmations = c; already = already; unmatched = unmatched; contacts = contacts; largest = top }) = cc in
+      let y : length rs ≡ n = ap (λ (x : Planned). x.records) p in
+      let x : length (plan_for a (records rs)).confirmations ≡ c = ap (λ (x : Planned). x.confirmations) p in
+      let w : (plan_for a (records rs)).already ≡ already = ap (λ (x : Planned). x.already) p in
+      let o : (plan_for a (records rs)).unmatched ≡ unmatched = ap (λ (x : Planned). x.unmatched) p in
       record {
         within = omega (arith, y, leb-true (length rs) a.records u);
         few = omega (arith, y, f.1);
@@ -74,10 +76,10 @@ module _ (a : Asked) (n used c already unmatched contacts top : ℕ) where
       (λ v. refused_made ShortTable n used c already unmatched contacts top (rw (u, v) at e)))
       (λ u. refused_made ShortTable n used c already unmatched contacts top (rw u at e))
 
-  by_list : (l : Listed) → planned_by a l ≡ answer → MadeOf a n c already unmatched
+  by_list : (l : Result Mark Refusal) → planned_by a l ≡ answer → MadeOf a n c already unmatched
   unfolding planned_by
-  by_list (RefusedList why) e = refused_made why n used c already unmatched contacts top e
-  by_list (Marked k t) e = by_read k t (read_of a) refl (text_fit a.text (a.numbers / 5)) e
+  by_list (Err why) e = refused_made why n used c already unmatched contacts top e
+  by_list (Ok m) e = by_read m.contacts m.largest (read_of a) refl (text_fit a.text (a.numbers / 5)) e
 
   pub made_of : answer ≡ planned_as a → MadeOf a n c already unmatched
   unfolding planned_as
@@ -97,7 +99,7 @@ row_at (f ∷ fs) (r ∷ rs) pad zero h = refl
 row_at (f ∷ fs) (r ∷ rs) pad (suc k) h = row_at fs rs pad k (le_of_suc-le-suc h)
 
 module _ (a : Asked) (n used c already unmatched contacts top : ℕ) (table : List ℕ) (index fates cards : List (List ℕ))
-    (K : PlannedTo a (Made n used c already unmatched contacts top) table index fates cards) where
+    (K : PlannedTo a (Ok (record { records = n; rows = used; confirmations = c; already = already; unmatched = unmatched; contacts = contacts; largest = top })) table index fates cards) where
   made_here : MadeOf a n c already unmatched
   made_here = made_of a n used c already unmatched contacts top K.answer
 

@@ -1,4 +1,8 @@
 -- From what each phase leaves to the definition. Assumes nothing.
+use Rattle.std.specs.Prelude.{Result, Ok, Err}
+use Rattle.reader.specs.declared.Reading.{Reading}
+use Rattle.contacts.specs.declared.Mark.{Mark}
+use Rattle.planner.specs.declared.Planned.{Planned}
 use mathlib.Core.Path.{◌≡◌, refl, sym, ap, ◌∙◌}
 use mathlib.Core.Bool.{Bool, true, false}
 use mathlib.Core.List.{List, ◌++◌}
@@ -18,11 +22,7 @@ use Rattle.chain.proofs.Fronts.{clear_all}
 use Rattle.adif.specs.Records.{records, refused, total}
 use Rattle.adif.specs.Reading.{RowsRead, read_text}
 use Rattle.reader.specs.Table.{zeros}
-use Rattle.reader.specs.declared.Reading.{Reading}
-use Rattle.reader.specs.declared.Reading.TheVariants.{Read, Refused as Unread}
 use Rattle.contacts.specs.Lists.{count_of, listed_as}
-use Rattle.contacts.specs.declared.Listed.{Listed}
-use Rattle.contacts.specs.declared.Listed.TheVariants.{Marked, Refused as RefusedList}
 use Rattle.contacts.proofs.ListLaws.{accepted}
 use Rattle.index.specs.Rows as Index
 use Rattle.indexing.specs.Index.{indexed_as, index_after, count_in}
@@ -42,41 +42,39 @@ use Rattle.opening.proofs.OpenLaws.{Known, opened_known, known_into}
 use Rattle.closing.specs.Phases.{Searched, plan_read}
 use Rattle.planner.specs.Planning.{Asked, asked, read_of, plan_for, made, planned_read, planned_by, planned_as, table_by, index_by, fates_by, cards_by, PlannedTo}
 use Rattle.planner.specs.Finished.{largest_in, gone_of, Ready, finished_as, finished_table, finished_fates, finished_cards, Finished}
-use Rattle.planner.specs.declared.Planned.{Planned}
-use Rattle.planner.specs.declared.Planned.TheVariants.{Made, Refused}
 
 -- ---- the answer is that of the reading and of what comes of it
-read_is : (a : Asked) (n top : ℕ) (r : RowsRead) → read_of a ≡ r → planned_read a n top r ≡ finished_as (plan_for a (read_of a)) (Marked n top) a.confirmations (read_by a.records r)
+read_is : (a : Asked) (n top : ℕ) (r : RowsRead) → read_of a ≡ r → planned_read a n top r ≡ finished_as (plan_for a (read_of a)) (Ok (record { contacts = n; largest = top })) a.confirmations (read_by a.records r)
 unfolding planned_read finished_as read_by count_in largest_in
 read_is a n top (refused why) e = refl
 read_is a n top (records rs) e = rw e (by (leb (length rs) a.records))
   where
-    by : (u : Bool) → pick u (pick (leb (length (plan_for a (records rs)).confirmations) a.confirmations) (made (plan_for a (records rs)) (length rs) (total rs) n top) (Refused ShortTable)) (Refused ShortTable)
-        ≡ finished_as (plan_for a (records rs)) (Marked n top) a.confirmations (pick u (Read (length rs) (total rs)) (Unread ShortTable))
+    by : (u : Bool) → pick u (pick (leb (length (plan_for a (records rs)).confirmations) a.confirmations) (made (plan_for a (records rs)) (length rs) (total rs) n top) (Err ShortTable)) (Err ShortTable)
+        ≡ finished_as (plan_for a (records rs)) (Ok (record { contacts = n; largest = top })) a.confirmations (pick u (Ok (record { records = length rs; rows = total rs })) (Err ShortTable))
     by true = refl
     by false = refl
 
-listed_is : (a : Asked) (l : Listed) → planned_by a l ≡ finished_as (plan_for a (read_of a)) l a.confirmations (opened_as a.text l a.numbers a.records)
+listed_is : (a : Asked) (l : Result Mark Refusal) → planned_by a l ≡ finished_as (plan_for a (read_of a)) l a.confirmations (opened_as a.text l a.numbers a.records)
 unfolding planned_by opened_as finished_as
-listed_is a (RefusedList why) = refl
-listed_is a (Marked n top) = read_is a n top (read_of a) refl
+listed_is a (Err why) = refl
+listed_is a (Ok m) = read_is a m.contacts m.largest (read_of a) refl
 
 planned_is : (a : Asked) → planned_as a ≡ finished_as (plan_for a (read_of a)) (indexed_as a.list a.contacts) a.confirmations (opened_as a.text (indexed_as a.list a.contacts) a.numbers a.records)
 unfolding planned_as
 planned_is a = listed_is a (indexed_as a.list a.contacts)
 
-unmade : {P : Type 0} (why : Refusal) (n used c already unmatched contacts top : ℕ) → Made n used c already unmatched contacts top ≡ Refused why → P
+unmade : {P : Type 0} (why : Refusal) (n used c already unmatched contacts top : ℕ) → ◌≡◌ {A = Result Planned Refusal} (Ok (record { records = n; rows = used; confirmations = c; already = already; unmatched = unmatched; contacts = contacts; largest = top })) (Err why) → P
 unmade why n used c already unmatched contacts top e = absurd (let z : ◌≡◌ {A = ℕ} 0 1 = cc in omega arith)
 
-opened_length : (text : List ℕ) (numbers lent : ℕ) (r : Reading) → length (opened_fates text numbers lent r) ≡ lent
+opened_length : (text : List ℕ) (numbers lent : ℕ) (r : Result Reading Refusal) → length (opened_fates text numbers lent r) ≡ lent
 unfolding opened_fates
-opened_length text numbers lent (Read n used) = length-sets (replicate lent no_row) 0 (entry_rows text (read_text text (numbers / 5))) ∙ length-replicate lent no_row
-opened_length text numbers lent (Unread why) = length-replicate lent no_row
+opened_length text numbers lent (Ok r) = length-sets (replicate lent no_row) 0 (entry_rows text (read_text text (numbers / 5))) ∙ length-replicate lent no_row
+opened_length text numbers lent (Err why) = length-replicate lent no_row
 
 -- ---- after the index is built and the text is read
 module _ (text list : List ℕ) (window : ℤ) (download : Bool) (table₀ : List ℕ) (index₀ fates₀ cards₀ : List (List ℕ))
-    (listed : Listed) (el : listed ≡ indexed_as list (length index₀)) (index₁ : List (List ℕ)) (ei : index₁ ≡ index_after list (length index₀)) (li : length index₁ ≡ length index₀)
-    (reading : Reading) (table₁ : List ℕ) (fates₁ cards₁ : List (List ℕ)) (O : Opened text listed (length table₀) (length fates₀) (length cards₀) reading table₁ fates₁ cards₁) (lt : length table₁ ≡ length table₀) where
+    (listed : Result Mark Refusal) (el : listed ≡ indexed_as list (length index₀)) (index₁ : List (List ℕ)) (ei : index₁ ≡ index_after list (length index₀)) (li : length index₁ ≡ length index₀)
+    (reading : Result Reading Refusal) (table₁ : List ℕ) (fates₁ cards₁ : List (List ℕ)) (O : Opened text listed (length table₀) (length fates₀) (length cards₀) reading table₁ fates₁ cards₁) (lt : length table₁ ≡ length table₀) where
   abbrev a : Asked
   a = asked text list window download table₀ index₀ fates₀ cards₀
 
@@ -86,21 +84,21 @@ module _ (text list : List ℕ) (window : ℤ) (download : Bool) (table₀ : Lis
   cards_lent : length cards₁ ≡ length cards₀
   cards_lent = ap length O.carded ∙ length-replicate (length cards₀) no_card
 
-  known : (n used : ℕ) → reading ≡ Read n used → Known text listed (length table₀) (length fates₀) n used table₁ fates₁
+  known : (n used : ℕ) → reading ≡ Ok (record { records = n; rows = used }) → Known text listed (length table₀) (length fates₀) n used table₁ fates₁
   known n used e = opened_known text listed (length table₀) (length fates₀) (length cards₀) reading table₁ fates₁ cards₁ n used O e
 
   -- what is asked for looking up
-  look_room : (r : Reading) → reading ≡ r → records_in r ≤ length fates₁
+  look_room : (r : Result Reading Refusal) → reading ≡ r → records_in r ≤ length fates₁
   unfolding records_in
-  look_room (Unread why) e = omega arith
-  look_room (Read n used) e = omega (arith, (known n used e).room, fates_lent)
+  look_room (Err why) e = omega arith
+  look_room (Ok r) e = omega (arith, (known r.records r.rows e).room, fates_lent)
 
-  look_for : (r : Reading) → reading ≡ r → 0 < records_in r → Indexed list (count_in listed) index₁
+  look_for : (r : Result Reading Refusal) → reading ≡ r → 0 < records_in r → Indexed list (count_in listed) index₁
   unfolding records_in Indexed count_in
-  look_for (Unread why) e h = absurd (omega arith)
-  look_for (Read n used) e h =
-      let K = known n used e in
-      let m : indexed_as list (length index₁) ≡ Marked K.contacts K.largest = rw li (sym el ∙ K.marked) in
+  look_for (Err why) e h = absurd (omega arith)
+  look_for (Ok r) e h =
+      let K = known r.records r.rows e in
+      let m : indexed_as list (length index₁) ≡ Ok (record { contacts = K.contacts; largest = K.largest }) = rw li (sym el ∙ K.marked) in
       rw K.marked (K.largest, m, rw li ei)
 
   pub asked_room : (n : ℕ) → n ≡ records_in reading → n ≤ length fates₁
@@ -112,11 +110,11 @@ module _ (text list : List ℕ) (window : ℤ) (download : Bool) (table₀ : Lis
 
   -- looked up
   module _ (limit : ℕ) (eli : limit ≡ limit_of window) (k : ℕ) (ek : k ≡ records_in reading) (fates₂ : List (List ℕ)) (eg : fates₂ ≡ sets fates₁ 0 (logged_rows text list limit fates₁ k)) where
-    looked : (n used : ℕ) → reading ≡ Read n used → fates₂ ≡ sets fates₁ 0 (logged_rows text list limit fates₁ n)
+    looked : (n used : ℕ) → reading ≡ Ok (record { records = n; rows = used }) → fates₂ ≡ sets fates₁ 0 (logged_rows text list limit fates₁ n)
     unfolding records_in
     looked n used e = let z : k ≡ n = ek ∙ ap records_in e in rw z at eg
 
-    searched : (n used : ℕ) → reading ≡ Read n used → Searched text list table₁ window n fates₂
+    searched : (n used : ℕ) → reading ≡ Ok (record { records = n; rows = used }) → Searched text list table₁ window n fates₂
     unfolding Found
     searched n used e =
         let K = known n used e in
@@ -132,7 +130,7 @@ module _ (text list : List ℕ) (window : ℤ) (download : Bool) (table₀ : Lis
         let l : n ≤ length fates₁ = omega (arith, K.room, fates_lent) in
         let g = looked n used e in
         let w = logged_within text list limit n fates₁ fates₂ l g window eli (entries_read text table₁) S in
-        let q : listed_as list ≡ Marked K.contacts K.largest = indexed_listed list (length index₀) K.contacts K.largest (sym el ∙ K.marked) in
+        let q : listed_as list ≡ Ok (record { contacts = K.contacts; largest = K.largest }) = indexed_listed list (length index₀) K.contacts K.largest (sym el ∙ K.marked) in
         let c : K.contacts ≡ count_of list = (accepted list K.contacts K.largest q).count in
         record {
           read = R;
@@ -146,10 +144,10 @@ module _ (text list : List ℕ) (window : ℤ) (download : Bool) (table₀ : Lis
           behind = logged_behind text list limit n fates₁ fates₂ l g ∙ D ∙ ap (λ (m : ℕ). drop n (replicate m no_row)) (sym (logged_length text list limit n fates₁ fates₂ l g ∙ fates_lent));
         }
 
-    ready_by : (r : Reading) → reading ≡ r → Ready text list window r table₁ fates₂ cards₁
+    ready_by : (r : Result Reading Refusal) → reading ≡ r → Ready text list window r table₁ fates₂ cards₁
     unfolding Ready
-    ready_by (Unread why) e = tt
-    ready_by (Read n used) e = (searched n used e, O.carded ∙ ap (λ (m : ℕ). replicate m no_card) (sym cards_lent))
+    ready_by (Err why) e = tt
+    ready_by (Ok r) e = (searched r.records r.rows e, O.carded ∙ ap (λ (m : ℕ). replicate m no_card) (sym cards_lent))
 
     pub ready_now : Ready text list window reading table₁ fates₂ cards₁
     ready_now = ready_by reading refl
@@ -158,12 +156,12 @@ module _ (text list : List ℕ) (window : ℤ) (download : Bool) (table₀ : Lis
     fates_as = ap length eg ∙ length-sets fates₁ 0 (logged_rows text list limit fates₁ k) ∙ fates_lent
 
     -- nothing is looked up of a reading that was refused
-    unread_fates : (why : Refusal) → reading ≡ Unread why → fates₂ ≡ replicate (length fates₀) no_row
+    unread_fates : (why : Refusal) → reading ≡ Err why → fates₂ ≡ replicate (length fates₀) no_row
     unfolding opened_fates records_in
     unread_fates why e = let z : k ≡ 0 = ek ∙ ap records_in e in (rw z at eg) ∙ O.fated ∙ rw e refl
 
     -- and finished
-    module _ (r : Planned) (table₂ : List ℕ) (fates₃ cards₂ : List (List ℕ)) (F : Finished text list window download listed reading table₁ fates₂ cards₁ r table₂ fates₃ cards₂) where
+    module _ (r : Result Planned Refusal) (table₂ : List ℕ) (fates₃ cards₂ : List (List ℕ)) (F : Finished text list window download listed reading table₁ fates₂ cards₁ r table₂ fates₃ cards₂) where
       same_plan : plan_read text list window download table₁ ≡ plan_for a (read_of a)
       same_plan = rw lt refl
 
@@ -173,32 +171,32 @@ module _ (text list : List ℕ) (window : ℤ) (download : Bool) (table₀ : Lis
           ∙ rw (same_plan, cards_lent, O.answer, el) refl
           ∙ sym (planned_is a)
 
-      table_by_lem : (x : Reading) (y : Planned) → reading ≡ x → r ≡ y → table₁ ≡ opened_table text (length table₀) x → finished_table table₁ x y ≡ table_by a y
+      table_by_lem : (x : Result Reading Refusal) (y : Result Planned Refusal) → reading ≡ x → r ≡ y → table₁ ≡ opened_table text (length table₀) x → finished_table table₁ x y ≡ table_by a y
       unfolding opened_table finished_table table_by finished_as
-      table_by_lem (Unread why) (Refused w) ex ey e = e
-      table_by_lem (Read n used) (Refused w) ex ey e = ap zeros lt
-      table_by_lem (Read n used) (Made b c d f g h i) ex ey e = e
-      table_by_lem (Unread why) (Made b c d f g h i) ex ey e = unmade why b c d f g h i (sym ey ∙ F.answer ∙ rw ex refl)
+      table_by_lem (Err why) (Err w) ex ey e = e
+      table_by_lem (Ok r) (Err w) ex ey e = ap zeros lt
+      table_by_lem (Ok r) (Ok p) ex ey e = e
+      table_by_lem (Err why) (Ok p) ex ey e = unmade why p.records p.rows p.confirmations p.already p.unmatched p.contacts p.largest (sym ey ∙ F.answer ∙ rw ex refl)
 
-      fates_by_lem : (x : Reading) (y : Planned) → reading ≡ x → r ≡ y → finished_fates (plan_for a (read_of a)) fates₂ x y ≡ fates_by a y
+      fates_by_lem : (x : Result Reading Refusal) (y : Result Planned Refusal) → reading ≡ x → r ≡ y → finished_fates (plan_for a (read_of a)) fates₂ x y ≡ fates_by a y
       unfolding finished_fates fates_by finished_as
-      fates_by_lem (Unread why) (Refused w) ex ey = unread_fates why ex
-      fates_by_lem (Read n used) (Refused w) ex ey = ap (λ (m : ℕ). replicate m no_row) fates_as
-      fates_by_lem (Read n used) (Made b c d f g h i) ex ey = rw fates_as refl
-      fates_by_lem (Unread why) (Made b c d f g h i) ex ey = unmade why b c d f g h i (sym ey ∙ F.answer ∙ rw ex refl)
+      fates_by_lem (Err why) (Err w) ex ey = unread_fates why ex
+      fates_by_lem (Ok r) (Err w) ex ey = ap (λ (m : ℕ). replicate m no_row) fates_as
+      fates_by_lem (Ok r) (Ok p) ex ey = rw fates_as refl
+      fates_by_lem (Err why) (Ok p) ex ey = unmade why p.records p.rows p.confirmations p.already p.unmatched p.contacts p.largest (sym ey ∙ F.answer ∙ rw ex refl)
 
-      cards_by_lem : (x : Reading) (y : Planned) → reading ≡ x → r ≡ y → finished_cards (plan_for a (read_of a)) cards₁ x y ≡ cards_by a y
+      cards_by_lem : (x : Result Reading Refusal) (y : Result Planned Refusal) → reading ≡ x → r ≡ y → finished_cards (plan_for a (read_of a)) cards₁ x y ≡ cards_by a y
       unfolding finished_cards cards_by finished_as
-      cards_by_lem (Unread why) (Refused w) ex ey = O.carded
-      cards_by_lem (Read n used) (Refused w) ex ey = ap (λ (m : ℕ). replicate m no_card) cards_lent
-      cards_by_lem (Read n used) (Made b c d f g h i) ex ey = rw cards_lent refl
-      cards_by_lem (Unread why) (Made b c d f g h i) ex ey = unmade why b c d f g h i (sym ey ∙ F.answer ∙ rw ex refl)
+      cards_by_lem (Err why) (Err w) ex ey = O.carded
+      cards_by_lem (Ok r) (Err w) ex ey = ap (λ (m : ℕ). replicate m no_card) cards_lent
+      cards_by_lem (Ok r) (Ok p) ex ey = rw cards_lent refl
+      cards_by_lem (Err why) (Ok p) ex ey = unmade why p.records p.rows p.confirmations p.already p.unmatched p.contacts p.largest (sym ey ∙ F.answer ∙ rw ex refl)
 
       -- the index is kept, or cleared
-      index_by_lem : (y : Planned) (m : ℕ) (index₂ : List (List ℕ)) → m ≡ gone_of y (length index₁) → index₂ ≡ sets index₁ 0 (replicate m Index.no_row) → index₂ ≡ index_by a y
+      index_by_lem : (y : Result Planned Refusal) (m : ℕ) (index₂ : List (List ℕ)) → m ≡ gone_of y (length index₁) → index₂ ≡ sets index₁ 0 (replicate m Index.no_row) → index₂ ≡ index_by a y
       unfolding gone_of index_by
-      index_by_lem (Made b c d f g h i) m index₂ em e = (rw em at e) ∙ ei
-      index_by_lem (Refused w) m index₂ em e = clear_all Index.no_row m index₁ index₂ em e ∙ ap (λ (n : ℕ). replicate n Index.no_row) li
+      index_by_lem (Ok p) m index₂ em e = (rw em at e) ∙ ei
+      index_by_lem (Err w) m index₂ em e = clear_all Index.no_row m index₁ index₂ em e ∙ ap (λ (n : ℕ). replicate n Index.no_row) li
 
       pub planned_to : (m : ℕ) (index₂ : List (List ℕ)) → m ≡ gone_of r (length index₁) → index₂ ≡ sets index₁ 0 (replicate m Index.no_row) → PlannedTo a r table₂ index₂ fates₃ cards₂
       planned_to m index₂ em e = record {
@@ -209,13 +207,13 @@ module _ (text list : List ℕ) (window : ℤ) (download : Bool) (table₀ : Lis
         carded = F.carded ∙ rw same_plan (cards_by_lem reading r refl refl) ∙ ap (cards_by a) answer_is;
       }
 
-pub gone_within : (p : Planned) (m n : ℕ) → n ≡ gone_of p m → n ≤ m
+pub gone_within : (p : Result Planned Refusal) (m n : ℕ) → n ≡ gone_of p m → n ≤ m
 unfolding gone_of
 gone_within p m n e = rw e (by p)
   where
-    by : (q : Planned) → gone_of q m ≤ m
-    by (Made b c d f g h i) = omega arith
-    by (Refused w) = omega arith
+    by : (q : Result Planned Refusal) → gone_of q m ≤ m
+    by (Ok p) = omega arith
+    by (Err w) = omega arith
 
 -- the records that are cleared, as those of no contact
 pub cleared_is : (s : List ℕ) (m : ℕ) (rows rows' : List (List ℕ)) → rows' ≡ sets rows 0 (Index.rows_from s 0 5 ++ replicate (m - 0) Index.no_row) → rows' ≡ sets rows 0 (replicate m Index.no_row)

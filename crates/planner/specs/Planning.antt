@@ -1,14 +1,15 @@
 -- What planning answers, and what it leaves in the lent tables. The refusals come in this order: the list's, 19 for the index, the
 -- reader's, 19 for the fates, 19 for the confirmations. After a refusal every table is zero throughout; else all past what is used.
-use Rattle.std.specs.Prelude.{ℕ, ◌/◌, ◌≡◌, Bool, List, map, ℤ, leb, length, replicate}
+use Rattle.refusals.specs.declared.Refusal.{Refusal}
+use Rattle.contacts.specs.declared.Mark.{Mark}
+use Rattle.planner.specs.declared.Planned.{Planned}
+use Rattle.std.specs.Prelude.{ℕ, ◌/◌, ◌≡◌, Bool, List, map, ℤ, leb, length, replicate, Result, Ok, Err}
 use Rattle.text.specs.Pick.{pick}
 use Rattle.refusals.specs.declared.Refusal.TheVariants.{ShortTable}
 use Rattle.adif.specs.Records.{records, refused, total}
 use Rattle.adif.specs.Reading.{RowsRead, read_text}
 use Rattle.reader.specs.Table.{table_of, zeros}
 use Rattle.contacts.specs.Lists.{contacts_of}
-use Rattle.contacts.specs.declared.Listed.{Listed}
-use Rattle.contacts.specs.declared.Listed.TheVariants.{Marked, Refused as RefusedList}
 use Rattle.index.specs.Rows as Index
 use Rattle.indexing.specs.Index.{indexed_as, index_after}
 use Rattle.plan.specs.Entry.{entries_of}
@@ -16,8 +17,6 @@ use Rattle.plan.specs.Plan.{Plan, planned}
 use Rattle.entries.specs.Row.{Row, no_row}
 use Rattle.plan.specs.Cards.{card_row, no_card}
 use Rattle.closing.specs.Closed.{fate_rows, padded}
-use Rattle.planner.specs.declared.Planned.{Planned}
-use Rattle.planner.specs.declared.Planned.TheVariants.{Made, Refused}
 
 -- ---- what is asked: the texts, the window, the kind of plan, and how many rows, records and confirmations were lent
 pub record Asked : Type 0 where
@@ -38,46 +37,46 @@ abbrev pub plan_for : Asked → RowsRead → Plan
 plan_for a r = planned a.window a.download (contacts_of a.list) (entries_of a.text r)
 
 -- ---- the answer
-unfoldable pub made : Plan → ℕ → ℕ → ℕ → ℕ → Planned
-made p n used contacts top = Made n used (length p.confirmations) p.already p.unmatched contacts top
+unfoldable pub made : Plan → ℕ → ℕ → ℕ → ℕ → Result Planned Refusal
+made p n used contacts top = Ok (record { records = n; rows = used; confirmations = length p.confirmations; already = p.already; unmatched = p.unmatched; contacts = contacts; largest = top })
 
-unfoldable pub planned_read : Asked → ℕ → ℕ → RowsRead → Planned
-planned_read a n top (refused why) = Refused why
+unfoldable pub planned_read : Asked → ℕ → ℕ → RowsRead → Result Planned Refusal
+planned_read a n top (refused why) = Err why
 planned_read a n top (records rs) =
     pick (leb (length rs) a.records)
     (pick (leb (length (plan_for a (records rs)).confirmations) a.confirmations)
     (made (plan_for a (records rs)) (length rs) (total rs) n top)
-    (Refused ShortTable))
-    (Refused ShortTable)
+    (Err ShortTable))
+    (Err ShortTable)
 
-unfoldable pub planned_by : Asked → Listed → Planned
-planned_by a (RefusedList why) = Refused why
-planned_by a (Marked n top) = planned_read a n top (read_of a)
+unfoldable pub planned_by : Asked → Result Mark Refusal → Result Planned Refusal
+planned_by a (Err why) = Err why
+planned_by a (Ok m) = planned_read a m.contacts m.largest (read_of a)
 
-unfoldable pub planned_as : Asked → Planned
+unfoldable pub planned_as : Asked → Result Planned Refusal
 planned_as a = planned_by a (indexed_as a.list a.contacts)
 
 -- ---- the tables after it
-unfoldable pub table_by : Asked → Planned → List ℕ
-table_by a (Made n used cards already unmatched contacts top) = table_of (read_of a) a.numbers
-table_by a (Refused why) = zeros a.numbers
+unfoldable pub table_by : Asked → Result Planned Refusal → List ℕ
+table_by a (Ok p) = table_of (read_of a) a.numbers
+table_by a (Err why) = zeros a.numbers
 
-unfoldable pub index_by : Asked → Planned → List (List ℕ)
-index_by a (Made n used cards already unmatched contacts top) = index_after a.list a.contacts
-index_by a (Refused why) = replicate a.contacts Index.no_row
+unfoldable pub index_by : Asked → Result Planned Refusal → List (List ℕ)
+index_by a (Ok p) = index_after a.list a.contacts
+index_by a (Err why) = replicate a.contacts Index.no_row
 
-unfoldable pub fates_by : Asked → Planned → List Row
-fates_by a (Made n used cards already unmatched contacts top) =
+unfoldable pub fates_by : Asked → Result Planned Refusal → List Row
+fates_by a (Ok p) =
     padded (fate_rows (plan_for a (read_of a)).fates (plan_for a (read_of a)).reasons) no_row a.records
-fates_by a (Refused why) = replicate a.records no_row
+fates_by a (Err why) = replicate a.records no_row
 
-unfoldable pub cards_by : Asked → Planned → List (List ℕ)
-cards_by a (Made n used cards already unmatched contacts top) =
+unfoldable pub cards_by : Asked → Result Planned Refusal → List (List ℕ)
+cards_by a (Ok p) =
     padded (map card_row (plan_for a (read_of a)).confirmations) no_card a.confirmations
-cards_by a (Refused why) = replicate a.confirmations no_card
+cards_by a (Err why) = replicate a.confirmations no_card
 
 -- ---- the five together
-pub record PlannedTo (a : Asked) (r : Planned) (table : List ℕ) (index fates cards : List (List ℕ)) : Type 0 where
+pub record PlannedTo (a : Asked) (r : Result Planned Refusal) (table : List ℕ) (index fates cards : List (List ℕ)) : Type 0 where
   pub answer : r ≡ planned_as a
   pub tabled : table ≡ table_by a (planned_as a)
   pub indexed : index ≡ index_by a (planned_as a)

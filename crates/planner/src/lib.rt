@@ -8,8 +8,7 @@ ghost use Rattle.index.specs.Contacts.{plain};
 ghost use Rattle.planner.specs.Planning.{asked, PlannedTo};
 ghost use Rattle.planner.specs.Finished.{largest_in, gone_of, Ready, Finished};
 
-use cards::Carded;
-use contacts::Listed;
+use contacts::Mark;
 use index::Contact;
 use reader::Reading;
 use refusals::Refusal;
@@ -17,28 +16,22 @@ use refusals::Refusal;
 // A plan by its numbers: the records read and the rows that they take, the confirmations to record, how many were known already and how
 // many match no contact; and the list's mark, which the plan keeps.
 #[derive(Clone, Copy)]
-pub enum Planned {
-    Made {
-        records: usize,
-        rows: usize,
-        confirmations: usize,
-        already: u64,
-        unmatched: u64,
-        contacts: usize,
-        largest: u64,
-    },
-    Refused(Refusal),
+pub struct Planned {
+    pub records: usize,
+    pub rows: usize,
+    pub confirmations: usize,
+    pub already: u64,
+    pub unmatched: u64,
+    pub contacts: usize,
+    pub largest: u64,
 }
 
-fn largest_in(listed: Listed) -> u64
+fn largest_in(listed: Result<Mark, Refusal>) -> u64
     ensures { result ≡ largest_in listed }
 {
     match listed {
-        Listed::Marked {
-            contacts: _,
-            largest,
-        } => largest,
-        Listed::Refused(_) => 0,
+        Ok(mark) => mark.largest,
+        Err(_) => 0,
     }
 }
 
@@ -48,55 +41,36 @@ fn finish(
     list: &[u8],
     window: i64,
     download: bool,
-    listed: Listed,
-    reading: Reading,
+    listed: Result<Mark, Refusal>,
+    reading: Result<Reading, Refusal>,
     table: &mut [u32],
     fates: &mut [[u32; 28]],
     cards: &mut [[u32; 5]],
-) -> Planned
+) -> Result<Planned, Refusal>
     requires { Ready text.now list.now window reading table.old fates.old cards.old }
     ensures { Finished text.now list.now window download listed reading table.old fates.old cards.old result table.new fates.new cards.new }
 {
-    match reading {
-        Reading::Refused(why) => Planned::Refused(why),
-        Reading::Read { records, rows } => {
-            let carded = closing::close(text, list, window, download, table, fates, records, cards);
-            match carded {
-                Carded::Full => Planned::Refused(Refusal::ShortTable),
-                Carded::Counted {
-                    confirmations,
-                    already,
-                    unmatched,
-                } => Planned::Made {
-                    records,
-                    rows,
-                    confirmations,
-                    already,
-                    unmatched,
-                    contacts: indexing::count_in(listed),
-                    largest: largest_in(listed),
-                },
-            }
-        }
-    }
+    let Reading { records, rows } = reading?;
+    let Some(counted) = closing::close(text, list, window, download, table, fates, records, cards)
+    else {
+        return Err(Refusal::ShortTable);
+    };
+    Ok(Planned {
+        records,
+        rows,
+        confirmations: counted.confirmations,
+        already: counted.already,
+        unmatched: counted.unmatched,
+        contacts: indexing::count_in(listed),
+        largest: largest_in(listed),
+    })
 }
 
 // How many of the index's records are cleared: all after a refusal, else none.
-fn gone(planned: Planned, records: usize) -> usize
+fn gone(planned: Result<Planned, Refusal>, records: usize) -> usize
     ensures { result ≡ gone_of planned records }
 {
-    match planned {
-        Planned::Refused(_) => records,
-        Planned::Made {
-            records: _,
-            rows: _,
-            confirmations: _,
-            already: _,
-            unmatched: _,
-            contacts: _,
-            largest: _,
-        } => 0,
-    }
+    if planned.is_err() { records } else { 0 }
 }
 
 // As `plan` and, for a download, `plan_download`. What the tables held before is of no account.
@@ -109,7 +83,7 @@ pub fn plan(
     index: &mut [Contact],
     fates: &mut [[u32; 28]],
     cards: &mut [[u32; 5]],
-) -> Planned
+) -> Result<Planned, Refusal>
     ensures { PlannedTo (asked text.now list.now window download table.old (plain index.old) fates.old cards.old) result table.new (plain index.new) fates.new cards.new }
 {
     let limit = times::window::limit_of(window);

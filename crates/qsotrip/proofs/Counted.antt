@@ -1,5 +1,7 @@
 -- What is in two lists of fields that were put together: every field can be written if each could; there are as many as the count of the
 -- QSO writer says; and where the first has columns only and the second none, the second is what is left beside the columns. Assumes nothing.
+use Rattle.std.specs.declared.cmp.Ordering.{Ordering}
+use Rattle.std.specs.declared.cmp.Ordering.TheVariants.{Less, Equal, Greater}
 use mathlib.Core.Path.{◌≡◌, refl, sym, ap, ◌∙◌}
 use mathlib.Core.Bool.{Bool, true, false}
 use mathlib.Core.List.{List, [], ◌∷◌, ◌++◌}
@@ -9,8 +11,6 @@ use lib.ListN.{length, length-append}
 use Rattle.text.specs.Pick.{pick, either}
 use Rattle.letters.specs.Same.{same}
 use Rattle.letters.specs.Order.{order}
-use Rattle.letters.specs.declared.Order.{Order}
-use Rattle.letters.specs.declared.Order.TheVariants.{Less, Equal, Greater}
 use Rattle.letters.proofs.SameLaws.{same_refl}
 use Rattle.letters.proofs.OrderLaws.{order_equal, order_turn, order_flip}
 use Rattle.adif.specs.Grammar.{Field}
@@ -30,7 +30,7 @@ module _ (P : Field → Type 0) where
   each_below m [] a = tt
   each_below m (e ∷ es) a = by (order e.name m) refl (each_below m es a.1)
     where
-      by : (o : Order) → order e.name m ≡ o → Each P (below m es) → Each P (below m (e ∷ es))
+      by : (o : Ordering) → order e.name m ≡ o → Each P (below m es) → Each P (below m (e ∷ es))
       by Less h i = rw (below_less m e es h) (a.0, i)
       by Equal h i = rw (below_equal m e es h) tt
       by Greater h i = rw (below_greater m e es h) tt
@@ -39,7 +39,7 @@ module _ (P : Field → Type 0) where
   each_above m [] a = tt
   each_above m (e ∷ es) a = by (order e.name m) refl (each_above m es a.1)
     where
-      by : (o : Order) → order e.name m ≡ o → Each P (above m es) → Each P (above m (e ∷ es))
+      by : (o : Ordering) → order e.name m ≡ o → Each P (above m es) → Each P (above m (e ∷ es))
       by Less h i = rw (above_less m e es h) i
       by Equal h i = rw (above_equal m e es h) a.1
       by Greater h i = rw (above_greater m e es h) a
@@ -83,7 +83,7 @@ module _ (f : Field) (fs : List Field) where
     news_split [] r = omega arith
     news_split (e ∷ es) r = by (order e.name f.name) refl (news_split es r.1)
       where
-        by : (o : Order) → order e.name f.name ≡ o → length (below f.name es) + news fs (above f.name es) ≤ news (f ∷ fs) es
+        by : (o : Ordering) → order e.name f.name ≡ o → length (below f.name es) + news fs (above f.name es) ≤ news (f ∷ fs) es
             → length (below f.name (e ∷ es)) + news fs (above f.name (e ∷ es)) ≤ news (f ∷ fs) (e ∷ es)
         by Less h i =
             rw (below_less f.name e es h, above_less f.name e es h, differ_greater f.name e.name (order_flip e.name f.name h), above_takes e.name fs (above_trans e.name f.name h fs high))
@@ -127,7 +127,7 @@ halves : (m : List ℕ) → is_column m ≡ true → (es : List Field) → Each 
 halves m c [] a = refl
 halves m c (e ∷ es) a = by (order e.name m) refl (halves m c es a.1)
   where
-    by : (o : Order) → order e.name m ≡ o → below m es ++ above m es ≡ es → below m (e ∷ es) ++ above m (e ∷ es) ≡ e ∷ es
+    by : (o : Ordering) → order e.name m ≡ o → below m es ++ above m es ≡ es → below m (e ∷ es) ++ above m (e ∷ es) ≡ e ∷ es
     by Less h i = rw (below_less m e es h, above_less m e es h) (ap (λ (l : List Field). e ∷ l) i)
     by Equal h i =
         let z : true ≡ false = sym c ∙ ap (λ (n : List ℕ). is_column n) (sym (order_equal e.name m h)) ∙ a.0 in

@@ -1,6 +1,6 @@
 -- A contact whose frequencies are at most 10 ^ 12 Hz keeps them, however often it is written, read and mapped. Assumes nothing.
+use Rattle.std.specs.Prelude.{Option, None, Some}
 use mathlib.Core.Path.{◌≡◌, refl, sym, ap, ◌∙◌}
-use mathlib.Core.Option.{Option, none, some}
 use Prim.Native.Nat.{ℕ}
 use Rattle.model.specs.Contact.{Contact, contact}
 use Rattle.model.specs.declared.Qso.{Qso}
@@ -13,8 +13,8 @@ use Rattle.qsotrip.proofs.Rows.{said_by, qso_of, mapped_is}
 use Rattle.qsotrip.proofs.Trip.{rows_read, rows_mean, round_tuned}
 
 survives : (f : Option ℕ) → Low f → Survives f
-survives none l = tt
-survives (some hz) l = hertz_survives hz l
+survives None l = tt
+survives (Some hz) l = hertz_survives hz l
 
 pub arrives : Arrives
 arrives s l = record {

@@ -1,9 +1,9 @@
 -- The values of a QSO's columns are UTF-8 and short: parts of its text, entries of the tables, frequencies and numbers in decimal.
 -- Assumes nothing.
+use Rattle.std.specs.Prelude.{Option, None, Some}
 use mathlib.Core.Path.{◌≡◌, refl, sym, ◌∙◌}
 use mathlib.Core.Bool.{Bool, true, false}
 use mathlib.Core.List.{List, [], ◌∷◌}
-use mathlib.Core.Option.{Option, none, some}
 use Prim.Native.Nat.{ℕ, zero, suc, ◌+◌, ◌/◌, ◌≤◌, ◌<◌}
 use native.Mathlib.Omega.{arith}
 use lib.IntN.{ℤ, pos, negsuc}
@@ -44,23 +44,23 @@ no_bytes : Utf8 []
 unfolding valid_up_to lead
 no_bytes = refl
 
-held_bytes : (o : Option (List ℕ)) → Held o → Held (some (or_empty o))
-held_bytes none h = (no_bytes, omega arith)
-held_bytes (some x) h = h
+held_bytes : (o : Option (List ℕ)) → Held o → Held (Some (or_empty o))
+held_bytes None h = (no_bytes, omega arith)
+held_bytes (Some x) h = h
 
-held_unless : (x : List ℕ) → Held (some x) → Held (unless_empty x)
+held_unless : (x : List ℕ) → Held (Some x) → Held (unless_empty x)
 held_unless [] h = tt
 held_unless (x ∷ xs) h = h
 
 held_split : (f : Option ℕ) (b : Option (List ℕ)) → Held b → Held (split_only f b)
-held_split none b h = tt
-held_split (some hz) b h = h
+held_split None b h = tt
+held_split (Some hz) b h = h
 
 -- ---- entries of a table
 unfoldable fine : List ℕ → Bool
 fine x = both (utf8 x) (ltb (length x) 100)
 
-fine_held : (x : List ℕ) → fine x ≡ true → Held (some x)
+fine_held : (x : List ℕ) → fine x ≡ true → Held (Some x)
 unfolding fine
 fine_held x e =
     let l : length x < 100 = ltb-true (length x) 100 (both_right (utf8 x) (ltb (length x) 100) e) in
@@ -80,7 +80,7 @@ unfolding fine mode_names modes utf8 valid_up_to char_len long_char second3 seco
 modes_fine = refl
 
 -- ---- a place that fits
-capitals_held : (x : List ℕ) → Held (some x) → Held (some (capitals x))
+capitals_held : (x : List ℕ) → Held (Some x) → Held (Some (capitals x))
 capitals_held x h = (good_raised x ∙ h.0 ∙ sym (length-map x raised), rw (length-map x raised) h.1)
 
 module _ (text : List ℕ) (small : length text ≤ 16777216) where
@@ -92,7 +92,7 @@ module _ (text : List ℕ) (small : length text ≤ 16777216) where
       by true = omega (arith, length-take p.len (drop p.start text), length-drop p.start text)
       by false = omega arith
 
-  part_held : (p : Place) → is_fit text p ≡ true → in_text p ≡ true → Held (some (part text p))
+  part_held : (p : Place) → is_fit text p ≡ true → in_text p ≡ true → Held (Some (part text p))
   unfolding is_fit is_part
   part_held p e i =
       let f : both (leb (p.start + p.len) (length text)) (utf8 (part text p)) ≡ true = rw i at e in
@@ -102,8 +102,8 @@ module _ (text : List ℕ) (small : length text ≤ 16777216) where
   unfolding value
   place_held p e = by (eqb p.kind 1) (eqb p.kind 2) (eqb p.kind 3) (eqb p.kind 4) (part_held p e)
     where
-      by : (b1 b2 b3 b4 : Bool) → (either b1 b2 ≡ true → Held (some (part text p)))
-          → Held (pick b1 (some (part text p)) (pick b2 (some (capitals (part text p))) (pick b3 (entry band_names p.start) (pick b4 (entry mode_names p.start) none))))
+      by : (b1 b2 b3 b4 : Bool) → (either b1 b2 ≡ true → Held (Some (part text p)))
+          → Held (pick b1 (Some (part text p)) (pick b2 (Some (capitals (part text p))) (pick b3 (entry band_names p.start) (pick b4 (entry mode_names p.start) None))))
       by true b2 b3 b4 h = h refl
       by false true b3 b4 h = capitals_held (part text p) (h refl)
       by false false true b4 h = entry_held band_names bands_fine p.start
@@ -111,20 +111,20 @@ module _ (text : List ℕ) (small : length text ≤ 16777216) where
       by false false false false h = tt
 
 -- ---- numbers
-mhz_held : (hz : ℕ) → Held (some (mhz_text hz))
+mhz_held : (hz : ℕ) → Held (Some (mhz_text hz))
 mhz_held hz = (mhz_utf8 hz, omega (arith, size_is hz _ refl, decimal_few (hz / 1000000)))
 
 megahertz_held : (f : Option ℕ) → Held (megahertz f)
-megahertz_held none = tt
-megahertz_held (some hz) = mhz_held hz
+megahertz_held None = tt
+megahertz_held (Some hz) = mhz_held hz
 
-signed_held : (n : ℤ) → Held (some (signed_text n))
+signed_held : (n : ℤ) → Held (Some (signed_text n))
 signed_held (pos n) = (utf8_ascii (decimal n) (decimal_ascii n), omega (arith, decimal_few n))
 signed_held (negsuc n) = (utf8_ascii (0x2D ∷ decimal (suc n)) (omega arith, decimal_ascii (suc n)), omega (arith, decimal_few (suc n)))
 
 entity_held : (n : Option ℤ) → Held (entity_text n)
-entity_held none = tt
-entity_held (some n) = signed_held n
+entity_held None = tt
+entity_held (Some n) = signed_held n
 
 -- ---- the columns of a QSO of the text
 module _ (text : List ℕ) (small : length text ≤ 16777216) (q : Qso) (e : is_qso text q ≡ true) where
@@ -135,7 +135,7 @@ module _ (text : List ℕ) (small : length text ≤ 16777216) (q : Qso) (e : is_
   column_held : (k : ℕ) → Held (value text (place_of q k))
   column_held k = place_held text small (place_of q k) (fit_at text q.columns all_fit k)
 
-  text_held : (k : ℕ) → Held (some (or_empty (value text (place_of q k))))
+  text_held : (k : ℕ) → Held (Some (or_empty (value text (place_of q k))))
   text_held k = held_bytes (value text (place_of q k)) (column_held k)
 
   pub qso_held : (extra : List Field) → AllHeld (slots (contact text q extra))

@@ -1,9 +1,9 @@
 -- Which contacts come back as they are: their frequencies survive, there is no band of the receiver without its frequency, and DXCC is a
 -- number of 64 bits. Assumes nothing.
+use Rattle.std.specs.Prelude.{Some, None, Option}
 use mathlib.Core.Path.{◌≡◌, refl, sym, ap, ◌∙◌}
 use mathlib.Core.Bool.{Bool, true, false}
 use mathlib.Core.List.{List, [], ◌∷◌, reverse, reverse_aux}
-use mathlib.Core.Option.{Option, none, some}
 use Prim.Native.Nat.{ℕ, suc, ◌^◌, ◌≤◌, ◌<◌}
 use native.Mathlib.Nat.{sub-zero}
 use native.Mathlib.Omega.{arith}
@@ -19,8 +19,6 @@ use Rattle.text.proofs.Walks.{stops}
 use Rattle.text.proofs.SpaceLaws.{plain_front, plain_back}
 use Rattle.decimal.specs.Decimal.{digits_after, digits_of, leads, above_zero, below_zero, signed_of}
 use Rattle.decimal.specs.Digits.{digits, decimal}
-use Rattle.decimal.specs.declared.Unsigned.TheVariants.{Is}
-use Rattle.decimal.specs.declared.Signed.TheVariants.{Of, Bad}
 use Rattle.decimal.proofs.ReadBack.{Digits, all_digits_lem, are_digits, number_is, some_digit, read_back_lem}
 use Rattle.mhz.specs.Reading.{read_hertz}
 use Rattle.mhz.specs.Writing.{mhz_text}
@@ -73,7 +71,7 @@ decimal_no_minus : (n : ℕ) → leads 0x2D (decimal n) ≡ false
 unfolding decimal
 decimal_no_minus n = no_minus (digits 20 n) (are_digits 20 n) (some_digit 19 n)
 
-digits_read : (n : ℕ) → n < 2 ^ 64 → digits_of (decimal n) ≡ Is n
+digits_read : (n : ℕ) → n < 2 ^ 64 → digits_of (decimal n) ≡ Some n
 unfolding decimal digits_of digits_after
 digits_read n h =
     simp
@@ -83,37 +81,37 @@ minus_leads : (xs : List ℕ) → signed_of (0x2D ∷ xs) ≡ below_zero (digits
 unfolding signed_of leads
 minus_leads xs = refl
 
-above_opened : (n : ℕ) → n < 2 ^ 64 → signed_of (trimmed (decimal n)) ≡ pick (ltb n (2 ^ 63)) (Of false n) Bad
+above_opened : (n : ℕ) → n < 2 ^ 64 → signed_of (trimmed (decimal n)) ≡ pick (ltb n (2 ^ 63)) (Some (record { negative = false; size = n })) None
 unfolding signed_of above_zero
 above_opened n h = rw (plain_trimmed (decimal n) (decimal_plain n), decimal_no_minus n, read_back_lem n h) refl
 
-below_opened : (n : ℕ) → suc n < 2 ^ 64 → signed_of (trimmed (0x2D ∷ decimal (suc n))) ≡ pick (leb (suc n) (2 ^ 63)) (Of true (suc n)) Bad
+below_opened : (n : ℕ) → suc n < 2 ^ 64 → signed_of (trimmed (0x2D ∷ decimal (suc n))) ≡ pick (leb (suc n) (2 ^ 63)) (Some (record { negative = true; size = suc n })) None
 unfolding below_zero
 below_opened n h =
     rw (plain_trimmed (0x2D ∷ decimal (suc n)) (refl, decimal_plain (suc n)), minus_leads (decimal (suc n)), digits_read (suc n) h, lt-ltb 0 (suc n) (omega arith)) refl
 
-above_read : (n : ℕ) → n < 2 ^ 63 → signed_of (trimmed (decimal n)) ≡ Of false n
-above_read n h = above_opened n (omega arith) ∙ ap (λ (t : Bool). pick t (Of false n) Bad) (lt-ltb n (2 ^ 63) h)
+above_read : (n : ℕ) → n < 2 ^ 63 → signed_of (trimmed (decimal n)) ≡ Some (record { negative = false; size = n })
+above_read n h = above_opened n (omega arith) ∙ ap (λ (t : Bool). pick t (Some (record { negative = false; size = n })) None) (lt-ltb n (2 ^ 63) h)
 
-below_read : (n : ℕ) → n < 2 ^ 63 → signed_of (trimmed (0x2D ∷ decimal (suc n))) ≡ Of true (suc n)
-below_read n h = below_opened n (omega arith) ∙ ap (λ (t : Bool). pick t (Of true (suc n)) Bad) (le-leb (suc n) (2 ^ 63) (omega arith))
+below_read : (n : ℕ) → n < 2 ^ 63 → signed_of (trimmed (0x2D ∷ decimal (suc n))) ≡ Some (record { negative = true; size = suc n })
+below_read n h = below_opened n (omega arith) ∙ ap (λ (t : Bool). pick t (Some (record { negative = true; size = suc n })) None) (le-leb (suc n) (2 ^ 63) (omega arith))
 
 pub entity_back : (n : Option ℤ) → Signed64 n → dxcc_read (entity_text n) ≡ n
-entity_back none h = refl
-entity_back (some (pos n)) h = rw (above_read n h) refl
-entity_back (some (negsuc n)) h = rw (below_read n h) refl
+entity_back None h = refl
+entity_back (Some (pos n)) h = rw (above_read n h) refl
+entity_back (Some (negsuc n)) h = rw (below_read n h) refl
 
 -- ---- frequencies, and the band of the receiver
-pub hertz_survives : (hz : ℕ) → hz ≤ 10 ^ 12 → Survives (some hz)
+pub hertz_survives : (hz : ℕ) → hz ≤ 10 ^ 12 → Survives (Some hz)
 hertz_survives hz h = hertz_back hz h
 
 pub frequency_back : (f : Option ℕ) → Survives f → frequency_read (megahertz f) ≡ f
-frequency_back none s = refl
-frequency_back (some hz) s = ap hertz_read s
+frequency_back None s = refl
+frequency_back (Some hz) s = ap hertz_read s
 
-split_back : (f : Option ℕ) (b : Option (List ℕ)) → (f ≡ none → b ≡ none) → split_only f b ≡ b
-split_back none b h = sym (h refl)
-split_back (some hz) b h = refl
+split_back : (f : Option ℕ) (b : Option (List ℕ)) → (f ≡ None → b ≡ None) → split_only f b ≡ b
+split_back None b h = sym (h refl)
+split_back (Some hz) b h = refl
 
 -- the theorem
 pub lasting_back : (c : Contact) → Lasting c → read_back c ≡ c
@@ -123,15 +121,15 @@ lasting_back c l =
 
 -- ---- and none but those come back: the conditions are what is needed, of contacts whose number has a size of 64 bits, as a QSO's has
 abbrev pub Sized : Option ℤ → Type 0
-Sized none = Unit {0}
-Sized (some (pos n)) = n < 2 ^ 64
-Sized (some (negsuc n)) = suc n < 2 ^ 64
+Sized None = Unit {0}
+Sized (Some (pos n)) = n < 2 ^ 64
+Sized (Some (negsuc n)) = suc n < 2 ^ 64
 
 frequency_only : (f : Option ℕ) → frequency_read (megahertz f) ≡ f → Survives f
-frequency_only none e = tt
-frequency_only (some hz) e = by (read_hertz (mhz_text hz)) e
+frequency_only None e = tt
+frequency_only (Some hz) e = by (read_hertz (mhz_text hz)) e
   where
-    by : (h : Hz) → hertz_read h ≡ some hz → h ≡ IsHertz hz
+    by : (h : Hz) → hertz_read h ≡ Some hz → h ≡ IsHertz hz
     by Absent q = absurd (let z : ◌≡◌ {A = ℕ} 0 1 = cc in omega arith)
     by (IsHertz n) q =
         let z : n ≡ hz = cc in
@@ -139,23 +137,23 @@ frequency_only (some hz) e = by (read_hertz (mhz_text hz)) e
     by Outside q = absurd (let z : ◌≡◌ {A = ℕ} 0 1 = cc in omega arith)
 
 entity_only : (n : Option ℤ) → Sized n → dxcc_read (entity_text n) ≡ n → Signed64 n
-entity_only none h e = tt
-entity_only (some (pos n)) h e = by (ltb n (2 ^ 63)) refl
+entity_only None h e = tt
+entity_only (Some (pos n)) h e = by (ltb n (2 ^ 63)) refl
   where
     by : (t : Bool) → ltb n (2 ^ 63) ≡ t → n < 2 ^ 63
     by true q = ltb-true n (2 ^ 63) q
     by false q =
-        let z : none ≡ some (pos n) = sym (ap entity_read (above_opened n h ∙ ap (λ (t : Bool). pick t (Of false n) Bad) q)) ∙ e in
+        let z : None ≡ Some (pos n) = sym (ap entity_read (above_opened n h ∙ ap (λ (t : Bool). pick t (Some (record { negative = false; size = n })) None) q)) ∙ e in
         absurd (let w : ◌≡◌ {A = ℕ} 0 1 = cc in omega arith)
-entity_only (some (negsuc n)) h e = by (leb (suc n) (2 ^ 63)) refl
+entity_only (Some (negsuc n)) h e = by (leb (suc n) (2 ^ 63)) refl
   where
     by : (t : Bool) → leb (suc n) (2 ^ 63) ≡ t → n < 2 ^ 63
     by true q = leb-true (suc n) (2 ^ 63) q
     by false q =
-        let z : none ≡ some (negsuc n) = sym (ap entity_read (below_opened n h ∙ ap (λ (t : Bool). pick t (Of true (suc n)) Bad) q)) ∙ e in
+        let z : None ≡ Some (negsuc n) = sym (ap entity_read (below_opened n h ∙ ap (λ (t : Bool). pick t (Some (record { negative = true; size = suc n })) None) q)) ∙ e in
         absurd (let w : ◌≡◌ {A = ℕ} 0 1 = cc in omega arith)
 
-split_only_lem : (f : Option ℕ) (b : Option (List ℕ)) → split_only f b ≡ b → f ≡ none → b ≡ none
+split_only_lem : (f : Option ℕ) (b : Option (List ℕ)) → split_only f b ≡ b → f ≡ None → b ≡ None
 split_only_lem f b e h = sym e ∙ ap (λ (f : Option ℕ). split_only f b) h
 
 pub back_lasting : (c : Contact) → Sized c.dxcc → read_back c ≡ c → Lasting c

@@ -1,9 +1,9 @@
 -- The record of a contact, name by name; so what a record becomes that is mapped and written back, and a contact that is written, read and
 -- mapped. Assumes nothing.
+use Rattle.std.specs.Prelude.{Option, None, Some}
 use mathlib.Core.Path.{◌≡◌, refl, sym, ap, ◌∙◌}
 use mathlib.Core.Bool.{Bool, true, false}
 use mathlib.Core.List.{List, [], ◌∷◌, ◌++◌}
-use mathlib.Core.Option.{Option, none, some}
 use Prim.Native.Nat.{ℕ}
 use native.Mathlib.Omega.{arith}
 use Rattle.text.specs.Ascii.{ascii}
@@ -36,19 +36,19 @@ never e = let z : ◌≡◌ {A = ℕ} 0 1 = cc in omega arith
 
 module _ (n : List ℕ) where
   -- no field of columns has another name; no extra field has a column's
-  no_column_there : is_column n ≡ false → (fs : List Field) → Each IsColumn fs → value_named n fs ≡ none
+  no_column_there : is_column n ≡ false → (fs : List Field) → Each IsColumn fs → value_named n fs ≡ None
   no_column_there c [] a = refl
   no_column_there c (f ∷ fs) a = by (same f.name n) refl (no_column_there c fs a.1)
     where
-      by : (t : Bool) → same f.name n ≡ t → value_named n fs ≡ none → pick t (some f.value) (value_named n fs) ≡ none
+      by : (t : Bool) → same f.name n ≡ t → value_named n fs ≡ None → pick t (Some f.value) (value_named n fs) ≡ None
       by true e i = absurd (never (sym a.0 ∙ ap (λ (x : List ℕ). is_column x) (same_true f.name n e) ∙ c))
       by false e i = i
 
-  column_not_there : is_column n ≡ true → (es : List Field) → Each NoColumn es → value_named n es ≡ none
+  column_not_there : is_column n ≡ true → (es : List Field) → Each NoColumn es → value_named n es ≡ None
   column_not_there c [] a = refl
   column_not_there c (e ∷ es) a = by (same e.name n) refl (column_not_there c es a.1)
     where
-      by : (t : Bool) → same e.name n ≡ t → value_named n es ≡ none → pick t (some e.value) (value_named n es) ≡ none
+      by : (t : Bool) → same e.name n ≡ t → value_named n es ≡ None → pick t (Some e.value) (value_named n es) ≡ None
       by true q i = absurd (never (sym c ∙ ap (λ (x : List ℕ). is_column x) (sym (same_true e.name n q)) ∙ a.0))
       by false q i = i
 
@@ -57,7 +57,7 @@ module _ (n : List ℕ) where
   extra_value c (f ∷ fs) = by (is_column f.name) refl (same f.name n) refl (extra_value c fs)
     where
       by : (k : Bool) → is_column f.name ≡ k → (t : Bool) → same f.name n ≡ t → value_named n (extra_fields fs) ≡ value_named n fs
-          → value_named n (pick k (extra_fields fs) (f ∷ extra_fields fs)) ≡ pick t (some f.value) (value_named n fs)
+          → value_named n (pick k (extra_fields fs) (f ∷ extra_fields fs)) ≡ pick t (Some f.value) (value_named n fs)
       by true p true e i = absurd (never (sym p ∙ ap (λ (x : List ℕ). is_column x) (same_true f.name n e) ∙ c))
       by true p false e i = i
       by false p true e i = rw e refl
@@ -104,8 +104,8 @@ laid_capital (s ∷ ss) e =
     by s.value (laid_capital ss (both_right (same (capitals (ascii s.name)) (ascii s.name)) (all (λ (s : Slot). same (capitals (ascii s.name)) (ascii s.name)) ss) e))
   where
     by : (o : Option (List ℕ)) → Each InCapitals (laid ss) → Each InCapitals (given s.name o ++ laid ss)
-    by none i = i
-    by (some v) i =
+    by None i = i
+    by (Some v) i =
         (same_true (capitals (ascii s.name)) (ascii s.name) (both_left (same (capitals (ascii s.name)) (ascii s.name)) (all (λ (s : Slot). same (capitals (ascii s.name)) (ascii s.name)) ss) e), i)
 
 columns_capital : (c : Contact) → Each InCapitals (column_fields c)
@@ -133,19 +133,19 @@ module _ (c : Contact) (r : Ascending named c.extra) where
         ∙ ap (value_named n) (columns_laid c)
         ∙ laid_value n (slots c)
 
-    its_call : column_value Columns.call (record_of c) ≡ some c.call
+    its_call : column_value Columns.call (record_of c) ≡ Some c.call
     unfolding column_named column_names named_in same_raised raised
     its_call = at (ascii "CALL") refl
 
-    its_date : column_value Columns.qso_date (record_of c) ≡ some c.qso_date
+    its_date : column_value Columns.qso_date (record_of c) ≡ Some c.qso_date
     unfolding column_named column_names named_in same_raised raised
     its_date = at (ascii "QSO_DATE") refl
 
-    its_time : column_value Columns.time_on (record_of c) ≡ some c.time_on
+    its_time : column_value Columns.time_on (record_of c) ≡ Some c.time_on
     unfolding column_named column_names named_in same_raised raised
     its_time = at (ascii "TIME_ON") refl
 
-    its_mode : column_value Columns.mode (record_of c) ≡ some c.mode
+    its_mode : column_value Columns.mode (record_of c) ≡ Some c.mode
     unfolding column_named column_names named_in same_raised raised
     its_mode = at (ascii "MODE") refl
 

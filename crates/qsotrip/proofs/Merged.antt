@@ -1,16 +1,16 @@
 -- Two lists of fields whose names rise, in one: its names rise; a name has the value of the first list where that has one, and else that
 -- of the second; and nothing else is in it. Assumes nothing.
+use Rattle.std.specs.Prelude.{Option, None, Some}
+use Rattle.std.specs.declared.cmp.Ordering.{Ordering}
+use Rattle.std.specs.declared.cmp.Ordering.TheVariants.{Less, Equal, Greater}
 use mathlib.Core.Path.{◌≡◌, refl, sym, ap, ◌∙◌}
 use mathlib.Core.Bool.{Bool, true, false}
 use mathlib.Core.List.{List, [], ◌∷◌, ◌++◌}
-use mathlib.Core.Option.{Option, none, some}
 use Prim.Native.Nat.{ℕ}
 use native.Mathlib.Omega.{arith}
 use Rattle.text.specs.Pick.{pick}
 use Rattle.letters.specs.Same.{same}
 use Rattle.letters.specs.Order.{order}
-use Rattle.letters.specs.declared.Order.{Order}
-use Rattle.letters.specs.declared.Order.TheVariants.{Less, Equal, Greater}
 use Rattle.letters.proofs.SameLaws.{same_refl, same_true}
 use Rattle.letters.proofs.OrderLaws.{order_refl, order_equal, order_turn, order_flip}
 use Rattle.adif.specs.Grammar.{Field}
@@ -51,7 +51,7 @@ pub above_rising : (f : Field) (fs : List Field) → Above f.name fs → Ascendi
 above_rising f [] a r = (tt, tt)
 above_rising f (g ∷ fs) a r = (a.0, r)
 
-pub above_none : (n : List ℕ) (fs : List Field) → Above n fs → value_named n fs ≡ none
+pub above_none : (n : List ℕ) (fs : List Field) → Above n fs → value_named n fs ≡ None
 above_none n [] a = refl
 above_none n (f ∷ fs) a = rw (differ_greater f.name n (order_flip n f.name a.0)) (above_none n fs a.1)
 
@@ -80,7 +80,7 @@ module _ (m : List ℕ) where
   rest_above [] r = tt
   rest_above (e ∷ es) r = by (order e.name m) refl (rest_above es r.1)
     where
-      by : (o : Order) → order e.name m ≡ o → Above m (above m es) → Above m (above m (e ∷ es))
+      by : (o : Ordering) → order e.name m ≡ o → Above m (above m es) → Above m (above m (e ∷ es))
       by Less h i = rw (above_less m e es h) i
       by Equal h i =
           rw (above_equal m e es h)
@@ -93,7 +93,7 @@ module _ (m : List ℕ) where
   rest_rises [] r = tt
   rest_rises (e ∷ es) r = by (order e.name m) refl (rest_rises es r.1)
     where
-      by : (o : Order) → order e.name m ≡ o → Ascending named (above m es) → Ascending named (above m (e ∷ es))
+      by : (o : Ordering) → order e.name m ≡ o → Ascending named (above m es) → Ascending named (above m (e ∷ es))
       by Less h i = rw (above_less m e es h) i
       by Equal h i = rw (above_equal m e es h) r.1
       by Greater h i = rw (above_greater m e es h) r
@@ -103,7 +103,7 @@ module _ (m : List ℕ) where
     laid_above k l [] a = (rw is l, above_trans k m l ys high)
     laid_above k l (e ∷ es) a = by (order e.name m) refl (laid_above k l es a.1)
       where
-        by : (o : Order) → order e.name m ≡ o → Above k (below m es ++ (f ∷ ys)) → Above k (below m (e ∷ es) ++ (f ∷ ys))
+        by : (o : Ordering) → order e.name m ≡ o → Above k (below m es ++ (f ∷ ys)) → Above k (below m (e ∷ es) ++ (f ∷ ys))
         by Less h i = rw (below_less m e es h) (a.0, i)
         by Equal h i = rw (below_equal m e es h) (rw is l, above_trans k m l ys high)
         by Greater h i = rw (below_greater m e es h) (rw is l, above_trans k m l ys high)
@@ -112,7 +112,7 @@ module _ (m : List ℕ) where
     laid_rises [] r s = above_rising f ys (rw is high) s
     laid_rises (e ∷ es) r s = by (order e.name m) refl (laid_rises es r.1 s)
       where
-        by : (o : Order) → order e.name m ≡ o → Ascending named (below m es ++ (f ∷ ys)) → Ascending named (below m (e ∷ es) ++ (f ∷ ys))
+        by : (o : Ordering) → order e.name m ≡ o → Ascending named (below m es ++ (f ∷ ys)) → Ascending named (below m (e ∷ es) ++ (f ∷ ys))
         by Less h i = rw (below_less m e es h) (above_rising e (below m es ++ (f ∷ ys)) (laid_above e.name h es (rising_above e es r)) i)
         by Equal h i = rw (below_equal m e es h) (above_rising f ys (rw is high) s)
         by Greater h i = rw (below_greater m e es h) (above_rising f ys (rw is high) s)
@@ -133,32 +133,32 @@ merged_rises (f ∷ fs) es r s =
 
 -- ---- the value of a name: that of the first list, or else that of the second
 abbrev pub or_value : Option (List ℕ) → Option (List ℕ) → Option (List ℕ)
-or_value none b = b
-or_value (some x) b = some x
+or_value None b = b
+or_value (Some x) b = Some x
 
-pub no_other : (a : Option (List ℕ)) → or_value a none ≡ a
-no_other none = refl
-no_other (some x) = refl
+pub no_other : (a : Option (List ℕ)) → or_value a None ≡ a
+no_other None = refl
+no_other (Some x) = refl
 
 pub value_join : (n : List ℕ) (xs ys : List Field) → value_named n (xs ++ ys) ≡ or_value (value_named n xs) (value_named n ys)
 value_join n [] ys = refl
 value_join n (x ∷ xs) ys = by (same x.name n) (value_join n xs ys)
   where
     by : (t : Bool) → value_named n (xs ++ ys) ≡ or_value (value_named n xs) (value_named n ys)
-        → pick t (some x.value) (value_named n (xs ++ ys)) ≡ or_value (pick t (some x.value) (value_named n xs)) (value_named n ys)
+        → pick t (Some x.value) (value_named n (xs ++ ys)) ≡ or_value (pick t (Some x.value) (value_named n xs)) (value_named n ys)
     by true i = refl
     by false i = i
 
 module _ (n m : List ℕ) where
   -- no field below m has m's name, or a greater one
-  below_none : (order n m ≡ Less → ⊥) → (es : List Field) → value_named n (below m es) ≡ none
+  below_none : (order n m ≡ Less → ⊥) → (es : List Field) → value_named n (below m es) ≡ None
   below_none g [] = refl
   below_none g (e ∷ es) = by (order e.name m) refl (below_none g es)
     where
-      by : (o : Order) → order e.name m ≡ o → value_named n (below m es) ≡ none → value_named n (below m (e ∷ es)) ≡ none
+      by : (o : Ordering) → order e.name m ≡ o → value_named n (below m es) ≡ None → value_named n (below m (e ∷ es)) ≡ None
       by Less h i = rw (below_less m e es h) (other (same e.name n) refl)
         where
-          other : (t : Bool) → same e.name n ≡ t → pick t (some e.value) (value_named n (below m es)) ≡ none
+          other : (t : Bool) → same e.name n ≡ t → pick t (Some e.value) (value_named n (below m es)) ≡ None
           other true q = absurd (g (rw (same_true e.name n q) at h))
           other false q = i
       by Equal h i = rw (below_equal m e es h) refl
@@ -170,11 +170,11 @@ module _ (n m : List ℕ) where
   value_split d (e ∷ es) = by (order e.name m) refl (value_split d es)
     where
       first : (t : Bool) → value_named n es ≡ or_value (value_named n (below m es)) (value_named n (above m es))
-          → pick t (some e.value) (value_named n es) ≡ or_value (pick t (some e.value) (value_named n (below m es))) (value_named n (above m es))
+          → pick t (Some e.value) (value_named n es) ≡ or_value (pick t (Some e.value) (value_named n (below m es))) (value_named n (above m es))
       first true i = refl
       first false i = i
 
-      by : (o : Order) → order e.name m ≡ o → value_named n es ≡ or_value (value_named n (below m es)) (value_named n (above m es))
+      by : (o : Ordering) → order e.name m ≡ o → value_named n es ≡ or_value (value_named n (below m es)) (value_named n (above m es))
           → value_named n (e ∷ es) ≡ or_value (value_named n (below m (e ∷ es))) (value_named n (above m (e ∷ es)))
       by Less h i = rw (below_less m e es h, above_less m e es h) (first (same e.name n) i)
       by Equal h i =
@@ -192,17 +192,17 @@ merged_value n (f ∷ fs) es r s =
     m = f.name
 
     -- the laws of the two values, where the name is not m
-    joins : (a b c d : Option (List ℕ)) → (o : Order) → order n m ≡ o → (o ≡ Equal → ⊥) → (o ≡ Less → b ≡ none) → ((o ≡ Less → ⊥) → a ≡ none) → d ≡ or_value a c
+    joins : (a b c d : Option (List ℕ)) → (o : Ordering) → order n m ≡ o → (o ≡ Equal → ⊥) → (o ≡ Less → b ≡ None) → ((o ≡ Less → ⊥) → a ≡ None) → d ≡ or_value a c
         → or_value a (or_value b c) ≡ or_value b d
     joins a b c d Less h x y z w = rw (y refl) (sym w)
     joins a b c d Equal h x y z w = absurd (x refl)
     joins a b c d Greater h x y z w =
-        let p : a ≡ none = z (λ q. absurd (let u : ◌≡◌ {A = ℕ} 0 1 = cc in omega arith)) in
+        let p : a ≡ None = z (λ q. absurd (let u : ◌≡◌ {A = ℕ} 0 1 = cc in omega arith)) in
         rw (w, p) refl
 
     by : (t : Bool) → same m n ≡ t → value_named n (merged fs (above m es)) ≡ or_value (value_named n fs) (value_named n (above m es))
-        → or_value (value_named n (below m es)) (pick (same m n) (some f.value) (value_named n (merged fs (above m es))))
-        ≡ or_value (pick (same m n) (some f.value) (value_named n fs)) (value_named n es)
+        → or_value (value_named n (below m es)) (pick (same m n) (Some f.value) (value_named n (merged fs (above m es))))
+        ≡ or_value (pick (same m n) (Some f.value) (value_named n fs)) (value_named n es)
     by true e i =
         let z : m ≡ n = same_true m n e in
         rw (e, below_none n m (λ h. absurd (let u : Equal ≡ Less = sym (order_refl m) ∙ ap (λ (x : List ℕ). order x m) z ∙ h in let w : ◌≡◌ {A = ℕ} 0 1 = cc in omega arith)) es) refl

@@ -1,9 +1,10 @@
 -- Rows that are mapped: what they say is a record whose names rise, in capitals; and rows that say the record of a contact are mapped to a
 -- QSO that says what is read back of it. Assumes nothing.
+use Rattle.std.specs.Prelude.{Ok, Err, Option, None, Some}
+use Rattle.std.specs.declared.cmp.Ordering.TheVariants.{Less}
 use mathlib.Core.Path.{◌≡◌, refl, sym, ap, ◌∙◌}
 use mathlib.Core.Bool.{Bool, true, false}
 use mathlib.Core.List.{List, [], ◌∷◌, map}
-use mathlib.Core.Option.{Option, none, some}
 use Prim.Native.Nat.{ℕ, ◌+◌, ◌/◌}
 use native.Mathlib.Omega.{arith}
 use lib.Dec.{eqb, leb, ltb}
@@ -14,12 +15,10 @@ use Rattle.text.proofs.BoolLaws.{both_left, both_right}
 use Rattle.letters.specs.Capitals.{raised, capitals}
 use Rattle.letters.specs.Same.{same, same_raised}
 use Rattle.letters.specs.Order.{order, order_raised}
-use Rattle.letters.specs.declared.Order.TheVariants.{Less}
 use Rattle.letters.proofs.CapitalLaws.{capitals_twice}
 use Rattle.mhz.specs.Reading.{read_hertz}
 use Rattle.refusals.specs.declared.Refusal.{Refusal}
 use Rattle.refusals.specs.declared.Refusal.TheVariants.{TooLong, BadRow, InexactFrequency}
-use Rattle.refusals.specs.declared.Verdict.TheVariants.{Accepted, Refused}
 use Rattle.adif.specs.Grammar.{Field}
 use Rattle.adif.specs.Limits.{Ascending}
 use Rattle.rowcheck.specs.Check.{Row, record_in, name_in, is_less}
@@ -80,7 +79,7 @@ module _ (text : List ℕ) where
 
   refused_not : (why : Refusal) (x y : Qso) → refused why x ≡ accepted y → ⊥
   refused_not why x y e =
-      let v : Refused why ≡ Accepted = ap (λ (a : Answer). a.verdict) e in
+      let v : Err why ≡ Ok tt = ap (λ (a : Answer). a.verdict) e in
       let z : ◌≡◌ {A = ℕ} 0 1 = cc in omega arith
 
   taken : (t : Bool) (a : Answer) (why : Refusal) (x y : Qso) → pick t a (refused why x) ≡ accepted y → (t ≡ true) × (a ≡ accepted y)
@@ -125,13 +124,13 @@ module _ (text : List ℕ) where
   part_named n c (r ∷ rs) = rw c (by (same (capitals (name_in text r)) n) (part_named n c rs))
     where
       by : (t : Bool) → part text (place_named text rs n) ≡ or_empty (value_named n (said_by rs))
-          → part text (pick t (value_place r) (place_named text rs n)) ≡ or_empty (pick t (some (row_field text r).value) (value_named n (said_by rs)))
+          → part text (pick t (value_place r) (place_named text rs n)) ≡ or_empty (pick t (Some (row_field text r).value) (value_named n (said_by rs)))
       by true i = refl
       by false i = i
 
   not_outside : (f : Option ℕ) → Survives f → (x : List ℕ) → x ≡ or_empty (megahertz f) → is_outside (read_hertz x) ≡ false
-  not_outside none s x e = rw (e, no_hertz) refl
-  not_outside (some hz) s x e = rw (e, s) refl
+  not_outside None s x e = rw (e, no_hertz) refl
+  not_outside (Some hz) s x e = rw (e, s) refl
 
   freq_inside : (rows : List Row) (f : Option ℕ) → Survives f → column_value Columns.freq (said_by rows) ≡ megahertz f → is_outside (hertz_at text (columns_of text rows) Columns.freq) ≡ false
   unfolding columns_of column_names raised

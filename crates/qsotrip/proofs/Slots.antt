@@ -1,8 +1,8 @@
 -- The fields of the columns, one by one: a name, and a value or none. Assumes nothing.
+use Rattle.std.specs.Prelude.{Option, None, Some}
 use mathlib.Core.Path.{◌≡◌, refl}
 use mathlib.Core.Bool.{Bool, true, false}
 use mathlib.Core.List.{List, [], ◌∷◌, ◌++◌}
-use mathlib.Core.Option.{Option, none, some}
 use Prim.Native.Nat.{ℕ, suc, ◌^◌, ◌≤◌, ◌<◌}
 use Prim.Native.String.{String}
 use native.Mathlib.Omega.{arith}
@@ -53,17 +53,17 @@ abbrev pub slots : Contact → List Slot
 slots c =
     slot "BAND" (unless_empty c.band)
     ∷ slot "BAND_RX" (split_only c.freq_rx c.band_rx)
-    ∷ slot "CALL" (some c.call)
+    ∷ slot "CALL" (Some c.call)
     ∷ slot "DXCC" (entity_text c.dxcc)
     ∷ slot "FREQ" (megahertz c.freq)
     ∷ slot "FREQ_RX" (megahertz c.freq_rx)
     ∷ slot "GRIDSQUARE" c.gridsquare
-    ∷ slot "MODE" (some c.mode)
-    ∷ slot "QSO_DATE" (some c.qso_date)
+    ∷ slot "MODE" (Some c.mode)
+    ∷ slot "QSO_DATE" (Some c.qso_date)
     ∷ slot "RST_RCVD" c.rst_rcvd
     ∷ slot "RST_SENT" c.rst_sent
     ∷ slot "SUBMODE" c.submode
-    ∷ slot "TIME_ON" (some c.time_on)
+    ∷ slot "TIME_ON" (Some c.time_on)
     ∷ []
 
 pub columns_laid : (c : Contact) → column_fields c ≡ laid (slots c)
@@ -72,7 +72,7 @@ columns_laid c = refl
 
 -- ---- the value of a name
 abbrev pub found : List ℕ → List Slot → Option (List ℕ)
-found n [] = none
+found n [] = None
 found n (s ∷ ss) = pick (same (ascii s.name) n) (or_value s.value (found n ss)) (found n ss)
 
 pub laid_value : (n : List ℕ) (ss : List Slot) → value_named n (laid ss) ≡ found n ss
@@ -80,7 +80,7 @@ laid_value n [] = refl
 laid_value n (s ∷ ss) = by s.value (laid_value n ss)
   where
     here : (t : Bool) (v : List ℕ) → value_named n (laid ss) ≡ found n ss
-        → pick t (some v) (value_named n (laid ss)) ≡ pick t (some v) (found n ss)
+        → pick t (Some v) (value_named n (laid ss)) ≡ pick t (Some v) (found n ss)
     here true v i = refl
     here false v i = i
 
@@ -90,8 +90,8 @@ laid_value n (s ∷ ss) = by s.value (laid_value n ss)
 
     by : (o : Option (List ℕ)) → value_named n (laid ss) ≡ found n ss
         → value_named n (given s.name o ++ laid ss) ≡ pick (same (ascii s.name) n) (or_value o (found n ss)) (found n ss)
-    by none i = neither (same (ascii s.name) n) i
-    by (some v) i = here (same (ascii s.name) n) v i
+    by None i = neither (same (ascii s.name) n) i
+    by (Some v) i = here (same (ascii s.name) n) v i
 
 -- ---- names that rise
 abbrev lower : List ℕ → Slot → Bool
@@ -102,8 +102,8 @@ laid_above m [] e = tt
 laid_above m (s ∷ ss) e = by s.value (laid_above m ss (both_right (lower m s) (all (lower m) ss) e))
   where
     by : (o : Option (List ℕ)) → Above m (laid ss) → Above m (given s.name o ++ laid ss)
-    by none i = i
-    by (some v) i = (less (order m (ascii s.name)) (both_left (lower m s) (all (lower m) ss) e), i)
+    by None i = i
+    by (Some v) i = (less (order m (ascii s.name)) (both_left (lower m s) (all (lower m) ss) e), i)
 
 abbrev before : Slot → Slot → Bool
 before s t = lower (ascii s.name) t
@@ -113,8 +113,8 @@ laid_rises [] e = tt
 laid_rises (s ∷ ss) e = by s.value (laid_rises ss (both_right (all (before s) ss) (pairs before ss) e))
   where
     by : (o : Option (List ℕ)) → Ascending named (laid ss) → Ascending named (given s.name o ++ laid ss)
-    by none i = i
-    by (some v) i = above_rising (record { name = ascii s.name; value = v }) (laid ss) (laid_above (ascii s.name) ss (both_left (all (before s) ss) (pairs before ss) e)) i
+    by None i = i
+    by (Some v) i = above_rising (record { name = ascii s.name; value = v }) (laid ss) (laid_above (ascii s.name) ss (both_left (all (before s) ss) (pairs before ss) e)) i
 
 pub columns_rise : (c : Contact) → Ascending named (column_fields c)
 columns_rise c = rw (columns_laid c) (laid_rises (slots c) refl)
@@ -125,8 +125,8 @@ laid_few [] = omega arith
 laid_few (s ∷ ss) = by s.value (laid_few ss)
   where
     by : (o : Option (List ℕ)) → length (laid ss) ≤ length ss → length (given s.name o ++ laid ss) ≤ suc (length ss)
-    by none i = omega arith
-    by (some v) i = omega arith
+    by None i = omega arith
+    by (Some v) i = omega arith
 
 pub columns_few : (c : Contact) → length (column_fields c) ≤ 13
 columns_few c = rw (columns_laid c) (laid_few (slots c))
@@ -137,8 +137,8 @@ laid_columns [] e = tt
 laid_columns (s ∷ ss) e = by s.value (laid_columns ss (both_right (is_column (ascii s.name)) (all (λ (s : Slot). is_column (ascii s.name)) ss) e))
   where
     by : (o : Option (List ℕ)) → Each IsColumn (laid ss) → Each IsColumn (given s.name o ++ laid ss)
-    by none i = i
-    by (some v) i = (both_left (is_column (ascii s.name)) (all (λ (s : Slot). is_column (ascii s.name)) ss) e, i)
+    by None i = i
+    by (Some v) i = (both_left (is_column (ascii s.name)) (all (λ (s : Slot). is_column (ascii s.name)) ss) e, i)
 
 pub columns_are : (c : Contact) → Each IsColumn (column_fields c)
 unfolding column_named column_names named_in same_raised raised
@@ -146,8 +146,8 @@ columns_are c = rw (columns_laid c) (laid_columns (slots c) refl)
 
 -- ---- fields that can be written
 abbrev pub Held : Option (List ℕ) → Type 0
-Held none = Unit {0}
-Held (some v) = Utf8 v × (length v < 2 ^ 64)
+Held None = Unit {0}
+Held (Some v) = Utf8 v × (length v < 2 ^ 64)
 
 abbrev pub AllHeld : List Slot → Type 0
 AllHeld [] = Unit {0}
@@ -180,8 +180,8 @@ laid_good [] e h = tt
 laid_good (s ∷ ss) e h = by s.value h.0 (laid_good ss (both_right (good_slot s) (all good_slot ss) e) h.1)
   where
     by : (o : Option (List ℕ)) → Held o → AllGood (laid ss) → AllGood (given s.name o ++ laid ss)
-    by none k i = i
-    by (some v) k i = (named_good (ascii s.name) v (both_left (good_slot s) (all good_slot ss) e) k.0 k.1, i)
+    by None k i = i
+    by (Some v) k i = (named_good (ascii s.name) v (both_left (good_slot s) (all good_slot ss) e) k.0 k.1, i)
 
 slots_good : (c : Contact) → all good_slot (slots c) ≡ true
 unfolding good_name writable lacks ends other lead trim_start trim_end space_len space_back width space1 space2 space3 space80 kind_of same_raised raised utf8 valid_up_to char_len long_char second3 second4

@@ -1,18 +1,17 @@
 -- Mapping, writing and reading, tied together. Assumes nothing.
+use Rattle.std.specs.Prelude.{Ok}
 use mathlib.Core.Path.{◌≡◌, refl, sym, ap, ◌∙◌}
 use mathlib.Core.Bool.{Bool, true, false}
 use mathlib.Core.List.{List, [], ◌∷◌, ◌++◌, append-nil, map}
 use Prim.Native.Nat.{ℕ, ◌/◌, ◌≤◌}
 use native.Mathlib.Omega.{arith}
 use lib.ListN.{length}
-use Rattle.refusals.specs.declared.Verdict.TheVariants.{Accepted}
 use Rattle.adif.specs.Records.{records, total}
 use Rattle.adif.specs.Grammar.{Field}
 use Rattle.adif.specs.Limits.{Ascending}
 use Rattle.adif.specs.Reading.{read_text}
 use Rattle.rowcheck.specs.Check.{Row, record_in}
 use Rattle.reader.specs.Table.{answer_to, table_after}
-use Rattle.reader.specs.declared.Reading.TheVariants.{Read}
 use Rattle.writer.specs.Rows.{rows_from, rows_of, row_field, ends_before, joined, grouped, records_of}
 use Rattle.trip.specs.File.{Front, front_text, Fit}
 use Rattle.trip.proofs.Means.{named}
@@ -36,7 +35,7 @@ use Rattle.qsotrip.proofs.Rows.{said_by, rows_capital, qso_of, qso_means, call_r
 -- A record's rows are mapped to a QSO; the QSO is written with the record's extra rows; what is written is read, behind any header. Then
 -- one record is read, and its fields are those of the record at first but for what `Rewritten` says.
 module _ (text table : List ℕ) (first count : ℕ) (q : Qso) (e : mapped_to text table first count ≡ accepted q)
-    (extra : List ℕ) (k : ℕ) (is : rows_of extra k ≡ extra_rows text (rows_from table first count)) (ok : qso_verdict text q extra k ≡ Accepted) where
+    (extra : List ℕ) (k : ℕ) (is : rows_of extra k ≡ extra_rows text (rows_from table first count)) (ok : qso_verdict text q extra k ≡ Ok tt) where
   abbrev pub before : List Field
   before = said_by text (rows_from table first count)
 
@@ -83,7 +82,7 @@ one_record text rows r e =
     ap (map (row_field text)) (sym (grouped_all rows)) ∙ sym (concat_map (row_field text) (grouped rows)) ∙ ap concat e ∙ append-nil r
 
 -- A QSO that its writer takes, none of whose extra fields is a column, is written, read and mapped.
-module _ (text : List ℕ) (q : Qso) (table : List ℕ) (count : ℕ) (ok : qso_verdict text q table count ≡ Accepted)
+module _ (text : List ℕ) (q : Qso) (table : List ℕ) (count : ℕ) (ok : qso_verdict text q table count ≡ Ok tt)
     (none : Each NoColumn (said_by text (rows_of table count))) where
   abbrev pub said : Contact
   said = contact_with text q (rows_of table count)
@@ -132,8 +131,8 @@ module _ (text : List ℕ) (q : Qso) (table : List ℕ) (count : ℕ) (ok : qso_
     used : total (fields ∷ []) ≡ length fields
     used = omega arith
 
-    pub one_read : answer_to s lent ≡ Read 1 (length fields)
-    one_read = answer_is s lent (fields ∷ []) ((qso_writable text q table count ok).some, tt) reading ∙ ap (Read 1) used
+    pub one_read : answer_to s lent ≡ Ok (record { records = 1; rows = length fields })
+    one_read = answer_is s lent (fields ∷ []) ((qso_writable text q table count ok).some, tt) reading ∙ ap (λ z. Ok (record { records = 1; rows = z })) used
 
     pub rows_read : said_by s (rows_of (table_after s lent) (length fields)) ≡ fields
     rows_read =

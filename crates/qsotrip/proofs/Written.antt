@@ -1,10 +1,10 @@
 -- A QSO that its writer takes, written behind a front or among other records, reads back as its record. Assumes nothing.
+use Rattle.std.specs.Prelude.{Ok}
 use mathlib.Core.Path.{◌≡◌, refl, ◌∙◌}
 use mathlib.Core.List.{List, [], ◌∷◌, ◌++◌, append-nil}
 use Prim.Native.Nat.{ℕ, ◌+◌, ◌≤◌, ◌<◌}
 use native.Mathlib.Omega.{arith}
 use lib.ListN.{length, length-append}
-use Rattle.refusals.specs.declared.Verdict.TheVariants.{Accepted}
 use Rattle.adif.specs.Records.{records, total}
 use Rattle.adif.specs.Grammar.{Field}
 use Rattle.adif.specs.Reading.{read_text}
@@ -23,7 +23,7 @@ fits_join : (rs ts : List (List Field)) → Fits rs → Fits ts → Fits (rs ++ 
 fits_join [] ts a b = b
 fits_join (r ∷ rs) ts a b = (a.0, a.1, fits_join rs ts a.2 b)
 
-module _ (text : List ℕ) (q : Qso) (table : List ℕ) (count : ℕ) (ok : qso_verdict text q table count ≡ Accepted) where
+module _ (text : List ℕ) (q : Qso) (table : List ℕ) (count : ℕ) (ok : qso_verdict text q table count ≡ Ok tt) where
   -- what the QSO with its extra rows says, and its record
   abbrev pub said : Contact
   said = contact_with text q (rows_of table count)

@@ -1,6 +1,5 @@
 -- Worked examples.
-use Rattle.std.specs.Prelude.{◌≡◌, refl, List, [], ◌∷◌, ◌++◌, replicate}
-use Rattle.std.proofs.Math.Option.{none, some}
+use Rattle.std.specs.Prelude.{◌≡◌, refl, List, [], ◌∷◌, ◌++◌, replicate, None, Some}
 use Rattle.std.proofs.Common.{lit≤}
 use Rattle.text.specs.Ascii.{ascii}
 use Rattle.text.specs.Space.{space1, space2, space3, space80, space_len, space_back, width, trim_start, trim_end, trimmed}
@@ -62,18 +61,18 @@ lone = record {
   time_on = [];
   band = [];
   mode = [];
-  submode = none;
-  freq = none;
-  freq_rx = none;
-  band_rx = some (ascii "40m");
-  rst_sent = none;
-  rst_rcvd = none;
-  gridsquare = none;
-  dxcc = none;
+  submode = None;
+  freq = None;
+  freq_rx = None;
+  band_rx = Some (ascii "40m");
+  rst_sent = None;
+  rst_rcvd = None;
+  gridsquare = None;
+  dxcc = None;
   extra = [];
 }
 
-band_lost : (read_back lone).band_rx ≡ none
+band_lost : (read_back lone).band_rx ≡ None
 unfolding read_back
 band_lost = refl
 

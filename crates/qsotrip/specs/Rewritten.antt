@@ -1,7 +1,6 @@
 -- What a record becomes that is mapped to a contact and written back, field by field; and what a contact becomes that is written, read
 -- and mapped.
-use Rattle.std.specs.Prelude.{◌≡◌, false, List, [], ◌∷◌, ℕ, ◌^◌, ◌<◌, ℤ, pos, negsuc}
-use Rattle.std.proofs.Math.Option.{Option, none, some}
+use Rattle.std.specs.Prelude.{◌≡◌, false, List, [], ◌∷◌, ℕ, ◌^◌, ◌<◌, ℤ, pos, negsuc, Option, None, Some}
 use Rattle.letters.specs.Capitals.{capitals}
 use Rattle.mhz.specs.Reading.{read_hertz}
 use Rattle.mhz.specs.Writing.{mhz_text}
@@ -33,10 +32,10 @@ NoColumn f = is_column f.name ≡ false
 -- the record `after` is the record `before`, mapped and written back
 pub record Rewritten (before after : List Field) : Type 0 where
   -- four columns are always there, even empty
-  pub call : column_value Columns.call after ≡ some (or_empty (column_value Columns.call before))
-  pub qso_date : column_value Columns.qso_date after ≡ some (or_empty (column_value Columns.qso_date before))
-  pub time_on : column_value Columns.time_on after ≡ some (or_empty (column_value Columns.time_on before))
-  pub mode : column_value Columns.mode after ≡ some (or_empty (column_value Columns.mode before))
+  pub call : column_value Columns.call after ≡ Some (or_empty (column_value Columns.call before))
+  pub qso_date : column_value Columns.qso_date after ≡ Some (or_empty (column_value Columns.qso_date before))
+  pub time_on : column_value Columns.time_on after ≡ Some (or_empty (column_value Columns.time_on before))
+  pub mode : column_value Columns.mode after ≡ Some (or_empty (column_value Columns.mode before))
   -- an empty BAND is dropped, and BAND_RX without a frequency of the receiver
   pub band : column_value Columns.band after ≡ unless_empty (or_empty (column_value Columns.band before))
   pub band_rx : column_value Columns.band_rx after ≡ split_only (frequency_read (column_value Columns.freq_rx before)) (column_value Columns.band_rx before)
@@ -76,18 +75,18 @@ read_back c = record {
 
 -- a frequency that survives being written; each of at most 10 ^ 12 Hz does
 abbrev pub Survives : Option ℕ → Type 0
-Survives none = Unit {0}
-Survives (some hz) = read_hertz (mhz_text hz) ≡ Is hz
+Survives None = Unit {0}
+Survives (Some hz) = read_hertz (mhz_text hz) ≡ Is hz
 
 -- a number of 64 bits with a sign
 abbrev pub Signed64 : Option ℤ → Type 0
-Signed64 none = Unit {0}
-Signed64 (some (pos n)) = n < 2 ^ 63
-Signed64 (some (negsuc n)) = n < 2 ^ 63
+Signed64 None = Unit {0}
+Signed64 (Some (pos n)) = n < 2 ^ 63
+Signed64 (Some (negsuc n)) = n < 2 ^ 63
 
 -- a contact that comes back as it is
 pub record Lasting (c : Contact) : Type 0 where
   pub freq : Survives c.freq
   pub freq_rx : Survives c.freq_rx
-  pub band_rx : c.freq_rx ≡ none → c.band_rx ≡ none
+  pub band_rx : c.freq_rx ≡ None → c.band_rx ≡ None
   pub dxcc : Signed64 c.dxcc

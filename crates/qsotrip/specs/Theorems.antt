@@ -1,7 +1,5 @@
 -- What is proved of the frequencies of a contact that is written, read and mapped, as often as one likes.
-use Rattle.std.specs.Prelude.{◌≡◌, List, ◌++◌, map, ℕ, ◌/◌, ◌^◌, ◌≤◌, length}
-use Rattle.std.proofs.Math.Option.{Option, none, some}
-use Rattle.refusals.specs.declared.Verdict.TheVariants.{Accepted}
+use Rattle.std.specs.Prelude.{◌≡◌, List, ◌++◌, map, ℕ, ◌/◌, ◌^◌, ◌≤◌, length, Ok, Option, None, Some}
 use Rattle.rowcheck.specs.Check.{Row}
 use Rattle.reader.specs.Table.{table_after}
 use Rattle.writer.specs.Rows.{rows_of, row_field}
@@ -21,7 +19,7 @@ pub record Sent : Type 0 where
   pub qso : Qso
   pub extra : List ℕ
   pub count : ℕ
-  pub taken : qso_verdict text qso extra count ≡ Accepted
+  pub taken : qso_verdict text qso extra count ≡ Ok tt
   pub no_column : Each NoColumn (map (row_field text) (rows_of extra count))
   pub front : Front
   pub fits : Fit front
@@ -59,8 +57,8 @@ pub data Trips : Contact → Contact → Type 0 where
 
 -- no frequency, or one of at most 10 ^ 12 Hz
 abbrev pub Low : Option ℕ → Type 0
-Low none = Unit {0}
-Low (some hz) = hz ≤ 10 ^ 12
+Low None = Unit {0}
+Low (Some hz) = hz ≤ 10 ^ 12
 
 abbrev pub Tuned : Contact → Type 0
 Tuned c = Low c.freq × Low c.freq_rx

@@ -1,4 +1,5 @@
 -- The answers of the QSO writer, and the output with each. Assumes nothing.
+use Rattle.std.specs.Prelude.{⊤, Result, Ok, Err}
 use mathlib.Core.Path.{◌≡◌, refl, sym, ap, ◌∙◌}
 use mathlib.Core.Bool.{Bool, true, false}
 use mathlib.Core.List.{List, []}
@@ -12,10 +13,6 @@ use Rattle.text.proofs.BoolLaws.{both_right}
 use Rattle.refusals.specs.Written.{fitted}
 use Rattle.refusals.specs.declared.Refusal.{Refusal}
 use Rattle.refusals.specs.declared.Refusal.TheVariants.{TooLong, BadRow, FrequencyTooHigh}
-use Rattle.refusals.specs.declared.Verdict.{Verdict}
-use Rattle.refusals.specs.declared.Verdict.TheVariants.{Accepted, Refused}
-use Rattle.refusals.specs.declared.Written.{Written}
-use Rattle.refusals.specs.declared.Written.TheVariants.{Bytes, Unwritten}
 use Rattle.refusals.proofs.WrittenLaws.{fits}
 use Rattle.output.specs.Put.{Put, Room}
 use Rattle.headers.specs.Answer.{capped}
@@ -35,7 +32,7 @@ use Rattle.qsowriter.proofs.RecordLaws.{columns_are, text_is}
 
 -- ---- the verdict
 module _ (text : List ℕ) (q : Qso) (t : List ℕ) (count : ℕ) where
-  pub long_text : 16777216 < length text → Refused TooLong ≡ qso_verdict text q t count
+  pub long_text : 16777216 < length text → Err TooLong ≡ qso_verdict text q t count
   unfolding qso_verdict
   long_text h = rw (lt-leb (length text) 16777216 h) refl
 
@@ -43,12 +40,12 @@ module _ (text : List ℕ) (q : Qso) (t : List ℕ) (count : ℕ) where
     high : either (is_too_high q.freq) (is_too_high q.freq_rx) ≡ b
     high = sym (eb ∙ rw (ex, ey) refl)
 
-    pub too_high : b ≡ true → Refused FrequencyTooHigh ≡ qso_verdict text q t count
+    pub too_high : b ≡ true → Err FrequencyTooHigh ≡ qso_verdict text q t count
     unfolding qso_verdict
     too_high h = rw (le-leb (length text) 16777216 l, high, h) refl
 
     module _ (n : b ≡ false) (i : Bool) (ei : i ≡ is_qso text q) where
-      pub no_qso : i ≡ false → Refused BadRow ≡ qso_verdict text q t count
+      pub no_qso : i ≡ false → Err BadRow ≡ qso_verdict text q t count
       unfolding qso_verdict
       no_qso h =
           let z : is_qso text q ≡ false = sym ei ∙ h in
@@ -58,7 +55,7 @@ module _ (text : List ℕ) (q : Qso) (t : List ℕ) (count : ℕ) where
         is_qso_lem : is_qso text q ≡ true
         is_qso_lem = sym ei ∙ g
 
-        pub many_rows : length t / 5 < count → Refused BadRow ≡ qso_verdict text q t count
+        pub many_rows : length t / 5 < count → Err BadRow ≡ qso_verdict text q t count
         unfolding qso_verdict
         many_rows h = rw (le-leb (length text) 16777216 l, high, n, is_qso_lem, lt-leb count (length t / 5) h) refl
 
@@ -66,35 +63,35 @@ module _ (text : List ℕ) (q : Qso) (t : List ℕ) (count : ℕ) where
           pub in_table : count * 5 ≤ length t
           in_table = omega arith
 
-          pub rows_decide : (cells : List Cell) → cells ≡ cells_of text q → (r : Verdict) → r ≡ extra_verdict text (cell_fields text column_order cells) (rows_of t count)
+          pub rows_decide : (cells : List Cell) → cells ≡ cells_of text q → (r : Result ⊤ Refusal) → r ≡ extra_verdict text (cell_fields text column_order cells) (rows_of t count)
               → r ≡ qso_verdict text q t count
           unfolding qso_verdict
           rows_decide cells ec r e =
               rw (le-leb (length text) 16777216 l, high, n, is_qso_lem, le-leb count (length t / 5) few, columns_are text q []) (e ∙ rw ec refl)
 
 -- ---- what an accepted QSO passed
-passed : (why : Refusal) (b : Bool) (v : Verdict) → pick b v (Refused why) ≡ Accepted → (b ≡ true) × (v ≡ Accepted)
+passed : (why : Refusal) (b : Bool) (v : Result ⊤ Refusal) → pick b v (Err why) ≡ Ok tt → (b ≡ true) × (v ≡ Ok tt)
 passed why true v e = (refl, e)
 passed why false v e = absurd (let z : ◌≡◌ {A = ℕ} 0 1 = cc in omega arith)
 
-not_high : (why : Refusal) (b : Bool) (v : Verdict) → pick b (Refused why) v ≡ Accepted → v ≡ Accepted
+not_high : (why : Refusal) (b : Bool) (v : Result ⊤ Refusal) → pick b (Err why) v ≡ Ok tt → v ≡ Ok tt
 not_high why true v e = absurd (let z : ◌≡◌ {A = ℕ} 0 1 = cc in omega arith)
 not_high why false v e = e
 
-module _ (text : List ℕ) (q : Qso) (t : List ℕ) (count : ℕ) (v : Verdict) (ev : v ≡ qso_verdict text q t count) (ok : v ≡ Accepted) where
-  abbrev rows : Verdict
+module _ (text : List ℕ) (q : Qso) (t : List ℕ) (count : ℕ) (v : Result ⊤ Refusal) (ev : v ≡ qso_verdict text q t count) (ok : v ≡ Ok tt) where
+  abbrev rows : Result ⊤ Refusal
   rows = extra_verdict text (column_fields (contact_with text q [])) (rows_of t count)
 
-  abbrev after_high : Verdict
-  after_high = pick (both (is_qso text q) (leb count (length t / 5))) rows (Refused BadRow)
+  abbrev after_high : Result ⊤ Refusal
+  after_high = pick (both (is_qso text q) (leb count (length t / 5))) rows (Err BadRow)
 
-  abbrev after_length : Verdict
-  after_length = pick (either (is_too_high q.freq) (is_too_high q.freq_rx)) (Refused FrequencyTooHigh) after_high
+  abbrev after_length : Result ⊤ Refusal
+  after_length = pick (either (is_too_high q.freq) (is_too_high q.freq_rx)) (Err FrequencyTooHigh) after_high
 
   accepted : (leb (length text) 16777216 ≡ true) × (both (is_qso text q) (leb count (length t / 5)) ≡ true)
   unfolding qso_verdict
   accepted =
-      let a : qso_verdict text q t count ≡ Accepted = sym ev ∙ ok in
+      let a : qso_verdict text q t count ≡ Ok tt = sym ev ∙ ok in
       let b = passed TooLong (leb (length text) 16777216) after_length a in
       let c = passed BadRow (both (is_qso text q) (leb count (length t / 5))) rows (not_high FrequencyTooHigh (either (is_too_high q.freq) (is_too_high q.freq_rx)) after_high b.1) in
       (b.0, c.0)
@@ -108,46 +105,43 @@ module _ (text : List ℕ) (q : Qso) (t : List ℕ) (count : ℕ) (v : Verdict) 
       omega arith
 
 -- ---- measured
-module _ (v : Verdict) where
-  pub measured_not : (why : Refusal) → v ≡ Refused why → (w : Verdict) (n : ℕ) → v ≡ w → Unwritten why ≡ sized_by w n
-  measured_not why e w n f = rw (← f, e) refl
-
-  pub measured_is : v ≡ Accepted → (text : List ℕ) (q : Qso) (t : List ℕ) (count : ℕ) → v ≡ qso_verdict text q t count → (cells : List Cell) → cells ≡ cells_of text q
+module _ (v : Result ⊤ Refusal) where
+  pub measured_is : v ≡ Ok tt → (text : List ℕ) (q : Qso) (t : List ℕ) (count : ℕ) → v ≡ qso_verdict text q t count → (cells : List Cell) → cells ≡ cells_of text q
       → (r : ℕ) → r ≡ capped (length (merged_text text cells t count))
-      → Bytes r ≡ sized_by (qso_verdict text q t count) (capped (length (qso_text text q (rows_of t count))))
+      → Ok r ≡ sized_by (qso_verdict text q t count) (capped (length (qso_text text q (rows_of t count))))
   measured_is ok text q t count ev cells ec r er =
-      let a : qso_verdict text q t count ≡ Accepted = sym ev ∙ ok in
+      let a : qso_verdict text q t count ≡ Ok tt = sym ev ∙ ok in
       let b : merged_text text cells t count ≡ qso_text text q (rows_of t count) = rw ec (text_is text q t count) in
-      rw (a, ← b) (ap Bytes er)
+      rw (a, ← b) (ap Ok er)
 
 -- ---- written
-sized_fit : (v : Verdict) (k room : ℕ) → fitted (sized_by v (capped k)) room ≡ fitted (sized_by v k) room
-sized_fit Accepted k room = capped_fit k room
-sized_fit (Refused why) k room = refl
+sized_fit : (v : Result ⊤ Refusal) (k room : ℕ) → fitted (sized_by v (capped k)) room ≡ fitted (sized_by v k) room
+sized_fit (Ok tt) k room = capped_fit k room
+sized_fit (Err why) k room = refl
 
 module _ (text : List ℕ) (q : Qso) (t : List ℕ) (count : ℕ) (was : List ℕ) (cells : List Cell) (ec : cells ≡ cells_of text q)
-    (m : Written) (em : m ≡ sized_by (qso_verdict text q t count) (capped (length (qso_text text q (rows_of t count))))) (f : Written) (ef : f ≡ fitted m (length was)) where
+    (m : Result ℕ Refusal) (em : m ≡ sized_by (qso_verdict text q t count) (capped (length (qso_text text q (rows_of t count))))) (f : Result ℕ Refusal) (ef : f ≡ fitted m (length was)) where
   answer : f ≡ written_to text q t count (length was)
   unfolding written_to
   answer = ef ∙ rw em (sized_fit (qso_verdict text q t count) (length (qso_text text q (rows_of t count))) (length was))
 
-  module _ (why : Refusal) (e : f ≡ Unwritten why) where
-    pub unfit : Unwritten why ≡ written_to text q t count (length was)
+  module _ (why : Refusal) (e : f ≡ Err why) where
+    pub unfit : Err why ≡ written_to text q t count (length was)
     unfit = sym e ∙ answer
 
     pub unfit_out : was ≡ output_after text q t count was
     unfolding output_after
     unfit_out = rw (← unfit) refl
 
-  module _ (n : ℕ) (e : f ≡ Bytes n) where
-    fitted_is : fitted (sized_by (qso_verdict text q t count) (length (qso_text text q (rows_of t count)))) (length was) ≡ Bytes n
+  module _ (n : ℕ) (e : f ≡ Ok n) where
+    fitted_is : fitted (sized_by (qso_verdict text q t count) (length (qso_text text q (rows_of t count)))) (length was) ≡ Ok n
     unfolding written_to
     fitted_is = sym answer ∙ e
 
-    within : (sized_by (qso_verdict text q t count) (length (qso_text text q (rows_of t count))) ≡ Bytes n) × (n ≤ 16777216) × (n ≤ length was)
+    within : (sized_by (qso_verdict text q t count) (length (qso_text text q (rows_of t count))) ≡ Ok n) × (n ≤ 16777216) × (n ≤ length was)
     within = fits n _ (length was) fitted_is
 
-    settled : (qso_verdict text q t count ≡ Accepted) × (n ≡ length (qso_text text q (rows_of t count)))
+    settled : (qso_verdict text q t count ≡ Ok tt) × (n ≡ length (qso_text text q (rows_of t count)))
     settled = sized (qso_verdict text q t count) (length (qso_text text q (rows_of t count))) n within.0
 
     text_here : merged_text text cells t count ≡ qso_text text q (rows_of t count)
@@ -164,7 +158,7 @@ module _ (text : List ℕ) (q : Qso) (t : List ℕ) (count : ℕ) (was : List �
     fit_room = rw text_here (omega (arith, settled.1, within.2))
 
     module _ (r : ℕ) (now : List ℕ) (p : Put r was now 0 (merged_text text cells t count)) where
-      pub done : Bytes r ≡ written_to text q t count (length was)
+      pub done : Ok r ≡ written_to text q t count (length was)
       unfolding Put
       done =
           let z : r ≡ n = omega (arith, p.0, settled.1, ap length text_here) in
@@ -174,6 +168,6 @@ module _ (text : List ℕ) (q : Qso) (t : List ℕ) (count : ℕ) (was : List �
       unfolding Put output_after
       done_out = rw (← done, ← text_here) p.1
 
-pub answer_is : (text : List ℕ) (q : Qso) (t : List ℕ) (count room : ℕ) (w : Written) → w ≡ written_to text q t count room
+pub answer_is : (text : List ℕ) (q : Qso) (t : List ℕ) (count room : ℕ) (w : Result ℕ Refusal) → w ≡ written_to text q t count room
     → ◌≡◌ {A = WrittenQso} (record { written = w; qso = q }) (answer_to text q t count room)
 answer_is text q t count room w e = rw e refl

@@ -1,4 +1,6 @@
 -- The extra rows, checked one after the other. Assumes nothing.
+use Rattle.std.specs.Prelude.{⊤, Result, Ok, Err}
+use Rattle.refusals.specs.declared.Refusal.{Refusal}
 use mathlib.Core.Path.{◌≡◌, refl, sym, ◌∙◌}
 use mathlib.Core.Bool.{Bool, true, false}
 use mathlib.Core.List.{List, [], ◌∷◌}
@@ -10,11 +12,9 @@ use lib.ListN.{length}
 use borrow.Author.Tests.{le-leb}
 use Rattle.text.specs.Pick.{pick, both}
 use Rattle.refusals.specs.declared.Refusal.TheVariants.{BadRow, BadName, ManyNames}
-use Rattle.refusals.specs.declared.Verdict.{Verdict}
-use Rattle.refusals.specs.declared.Verdict.TheVariants.{Accepted, Refused}
 use Rattle.adif.specs.Grammar.{Field}
-use Rattle.rowcheck.specs.Check.{Row, name_in, placed, sound, follows, writable, counted, verdict, is_fine, and_then}
-use Rattle.rowcheck.proofs.FineLaws.{few_names, fine}
+use Rattle.rowcheck.specs.Check.{Row, name_in, placed, sound, follows, writable, counted, verdict, and_then}
+use Rattle.rowcheck.proofs.FineLaws.{few_names}
 use Rattle.writer.specs.Rows.{row_at, rows_from, rows_of}
 use Rattle.writer.proofs.RowLaws.{rows_cons}
 use Rattle.cells.specs.Cells.{column_order, cell_fields}
@@ -25,8 +25,8 @@ use Rattle.qsowriter.proofs.TakenLaws.{taken_is, count_is}
 
 -- ---- a row, as a row of record 1
 by_tests : (p s o w m : Bool)
-    → pick p (pick s (pick o (pick w (pick m Accepted (Refused (ManyNames 0))) (Refused BadName)) (Refused BadRow)) (Refused BadRow)) (Refused BadRow)
-    ≡ pick (both (both p s) o) (pick w (pick m Accepted (Refused (ManyNames 0))) (Refused BadName)) (Refused BadRow)
+    → ◌≡◌ {A = Result ⊤ Refusal} (pick p (pick s (pick o (pick w (pick m (Ok tt) (Err (ManyNames 0))) (Err BadName)) (Err BadRow)) (Err BadRow)) (Err BadRow))
+    (pick (both (both p s) o) (pick w (pick m (Ok tt) (Err (ManyNames 0))) (Err BadName)) (Err BadRow))
 by_tests true true true w m = refl
 by_tests true true false w m = refl
 by_tests true false o w m = refl
@@ -56,8 +56,8 @@ module _ (text : List ℕ) (fs : List Field) (c : ℕ) (p r : Row) (taken : Bool
       rw (many (le-leb c 256 h)) (by_tests (placed text r) (sound text r) (is_above text p r) (writable (name_in text r)) (leb (count_with text fs c r) 256))
 
 -- ---- what is still to be checked: n is 0 before the first row and 1 after it
-abbrev going : List ℕ → List Field → ℕ → ℕ → Row → List Row → Verdict
-going text fs zero c p [] = Accepted
+abbrev going : List ℕ → List Field → ℕ → ℕ → Row → List Row → Result ⊤ Refusal
+going text fs zero c p [] = Ok tt
 going text fs zero c p (r ∷ rs) = and_then (row_verdict text fs c true r) (rows_after text fs (count_with text fs c r) r rs)
 going text fs (suc n) c p rs = rows_after text fs c p rs
 
@@ -66,7 +66,7 @@ unfolding extra_verdict
 starts text fs p [] = refl
 starts text fs p (r ∷ rs) = refl
 
-none_left : (text : List ℕ) (fs : List Field) (n c : ℕ) (p : Row) → going text fs n c p [] ≡ Accepted
+none_left : (text : List ℕ) (fs : List Field) (n c : ℕ) (p : Row) → going text fs n c p [] ≡ Ok tt
 none_left text fs zero c p = refl
 none_left text fs (suc n) c p = refl
 
@@ -92,15 +92,11 @@ check_start text cells t count c p l e =
     rw (z, sub-zero count) (starts text (cell_fields text column_order cells) p (rows_from t 0 count))
 
 pub check_end : (text : List ℕ) (cells : List Cell) (t : List ℕ) (count n c : ℕ) (p : Row) (i : ℕ) → count ≤ i → Checking text cells t count n c p i
-    → Accepted ≡ extra_verdict text (cell_fields text column_order cells) (rows_of t count)
+    → Ok tt ≡ extra_verdict text (cell_fields text column_order cells) (rows_of t count)
 unfolding Checking
 check_end text cells t count n c p i h q =
     let z : count - i ≡ 0 = omega arith in
     sym (none_left text (cell_fields text column_order cells) n c p) ∙ (rw z at q)
-
-stops : (v w : Verdict) → is_fine v ≡ false → v ≡ and_then v w
-stops Accepted w e = absurd (let z : ◌≡◌ {A = ℕ} 0 1 = cc in omega arith)
-stops (Refused why) w e = refl
 
 counted_more : (c : ℕ) (r : Row) → counted 1 c (as_first r) ≤ 256 → c + 1 ≤ 256
 unfolding counted
@@ -112,7 +108,7 @@ few_in_the_way false n c w e a b = omega arith
 
 module _ (text : List ℕ) (cells : List Cell) (t : List ℕ) (count n c : ℕ) (p : Row) (i : ℕ) (h : i < count) (a : n ≤ 1) (b : c ≤ 13 + n * 243)
     (row : Row) (er : row ≡ as_first (row_at t i)) (name : List ℕ) (en : name ≡ name_in text row) (taken : Bool) (et : taken ≡ taken_by column_order cells name)
-    (w : ℕ) (ew : w ≡ pick taken 0 c) (v : Verdict) (ev : v ≡ verdict text n w p row) (f : Bool) (ef : f ≡ is_fine v) where
+    (w : ℕ) (ew : w ≡ pick taken 0 c) (v : Result ⊤ Refusal) (ev : v ≡ verdict text n w p row) where
   abbrev fs : List Field
   fs = cell_fields text column_order cells
 
@@ -122,19 +118,19 @@ module _ (text : List ℕ) (cells : List Cell) (t : List ℕ) (count n c : ℕ) 
   from : going text fs n c p (rows_from t i (count - i)) ≡ and_then v (rows_after text fs (pick taken c (c + 1)) row (rows_from t (i + 1) (count - (i + 1))))
   from = rw (rows_cons t count i h, ev, ew, er) (one_row text fs n c p (row_at t i) (rows_from t (i + 1) (count - (i + 1))) taken is_taken_lem a b)
 
-  pub check_stop : f ≡ false → Checking text cells t count n c p i → v ≡ extra_verdict text (cell_fields text column_order cells) (rows_of t count)
+  pub check_stop : (why : Refusal) → v ≡ Err why → Checking text cells t count n c p i → Err why ≡ extra_verdict text (cell_fields text column_order cells) (rows_of t count)
   unfolding Checking
-  check_stop g q = stops v _ (sym ef ∙ g) ∙ sym from ∙ q
+  check_stop why g q = rw g at (sym from ∙ q)
 
-  module _ (g : f ≡ true) (d : ℕ) (ed : d ≡ pick taken c (c + 1)) where
+  module _ (g : v ≡ Ok tt) (d : ℕ) (ed : d ≡ pick taken c (c + 1)) where
     pub check_on : Checking text cells t count n c p i → Checking text cells t count 1 d row (i + 1)
     unfolding Checking
-    check_on q = rw ed (sym (from ∙ rw (fine v f ef g) refl) ∙ q)
+    check_on q = rw ed (sym (from ∙ rw g refl) ∙ q)
 
     pub check_few : d ≤ 256
-    check_few = by n taken w p row ew a b ed (sym ev ∙ fine v f ef g) er
+    check_few = by n taken w p row ew a b ed (sym ev ∙ g) er
       where
-        by : (n : ℕ) (taken : Bool) (w : ℕ) (p row : Row) → w ≡ pick taken 0 c → n ≤ 1 → c ≤ 13 + n * 243 → d ≡ pick taken c (c + 1) → verdict text n w p row ≡ Accepted
+        by : (n : ℕ) (taken : Bool) (w : ℕ) (p row : Row) → w ≡ pick taken 0 c → n ≤ 1 → c ≤ 13 + n * 243 → d ≡ pick taken c (c + 1) → verdict text n w p row ≡ Ok tt
             → row ≡ as_first (row_at t i) → d ≤ 256
         by zero true w p row ew a b ed k er = omega arith
         by zero false w p row ew a b ed k er = omega arith

@@ -1,8 +1,8 @@
 -- The fields of a contact's columns are those of the cells of its QSO. Assumes nothing.
+use Rattle.std.specs.Prelude.{Option, None, Some}
 use mathlib.Core.Path.{◌≡◌, refl, sym, ap, ◌∙◌}
 use mathlib.Core.Bool.{Bool, true, false}
 use mathlib.Core.List.{List, [], ◌∷◌, ◌++◌}
-use mathlib.Core.Option.{Option, none, some}
 use Prim.Native.Nat.{ℕ, zero, suc, ◌≤◌, ◌<◌}
 use Prim.Native.String.{String}
 use native.Mathlib.Nat.{sub-zero}
@@ -37,14 +37,14 @@ use Rattle.qsowriter.specs.Writing.{contact_with, qso_text}
 
 -- ---- a value that is there
 abbrev is_some : Option (List ℕ) → Bool
-is_some none = false
-is_some (some x) = true
+is_some None = false
+is_some (Some x) = true
 
-as_said : (v : Option (List ℕ)) (b : Bool) → is_some v ≡ b → pick b (some (or_empty v)) none ≡ v
-as_said none true e = absurd (let z : ◌≡◌ {A = ℕ} 0 1 = cc in omega arith)
-as_said none false e = refl
-as_said (some x) true e = refl
-as_said (some x) false e = absurd (let z : ◌≡◌ {A = ℕ} 0 1 = cc in omega arith)
+as_said : (v : Option (List ℕ)) (b : Bool) → is_some v ≡ b → pick b (Some (or_empty v)) None ≡ v
+as_said None true e = absurd (let z : ◌≡◌ {A = ℕ} 0 1 = cc in omega arith)
+as_said None false e = refl
+as_said (Some x) true e = refl
+as_said (Some x) false e = absurd (let z : ◌≡◌ {A = ℕ} 0 1 = cc in omega arith)
 
 entry_there : (names : List (List ℕ)) (k : ℕ) → k < length names → is_some (entry names k) ≡ true
 entry_there [] k h = absurd (omega arith)
@@ -68,7 +68,7 @@ kinds : (k : ℕ) → eqb k 3 ≡ true → eqb k 4 ≡ false
 kinds k e = ne_eqb k 4 (λ (f : k ≡ 4). omega (arith, eqb-true k 3 e))
 
 some_by : (a b c d x y : Bool) (s u : List ℕ) (v w : Option (List ℕ)) → (c ≡ true → d ≡ false) → is_some v ≡ x → is_some w ≡ y
-    → is_some (pick a (some s) (pick b (some u) (pick c v (pick d w none)))) ≡ either (either a b) (either (both c x) (both d y))
+    → is_some (pick a (Some s) (pick b (Some u) (pick c v (pick d w None)))) ≡ either (either a b) (either (both c x) (both d y))
 some_by true b c d x y s u v w n ex ey = refl
 some_by false true c d x y s u v w n ex ey = refl
 some_by false false true d x y s u v w n ex ey = ex ∙ rw (n refl) (by x)
@@ -91,7 +91,7 @@ module _ (text : List ℕ) where
   unfolding words_cell
   words_said p = by (has_value p) ∙ as_said (value text p) (has_value p) (has_value_lem p)
     where
-      by : (b : Bool) → said text (pick b (Words p) Dropped) ≡ pick b (some (or_empty (value text p))) none
+      by : (b : Bool) → said text (pick b (Words p) Dropped) ≡ pick b (Some (or_empty (value text p))) None
       by true = refl
       by false = refl
 
@@ -101,13 +101,13 @@ module _ (text : List ℕ) where
     where
       by : (x : List ℕ) → bytes text p ≡ x → said text (pick (eqb (length x) 0) Dropped (Words p)) ≡ unless_empty x
       by [] e = refl
-      by (y ∷ ys) e = rw (ne_eqb (suc (length ys)) 0 (λ (z : suc (length ys) ≡ 0). omega arith)) (ap some e)
+      by (y ∷ ys) e = rw (ne_eqb (suc (length ys)) 0 (λ (z : suc (length ys) ≡ 0). omega arith)) (ap Some e)
 
   split_said : (p : Place) (f : Frequency) → said text (split_cell p f) ≡ split_only (hertz f) (value text p)
   unfolding split_cell
   split_said p f = by (is_yes f.given)
     where
-      by : (b : Bool) → said text (pick b (words_cell p) Dropped) ≡ split_only (pick b (some f.hz) none) (value text p)
+      by : (b : Bool) → said text (pick b (words_cell p) Dropped) ≡ split_only (pick b (Some f.hz) None) (value text p)
       by true = words_said p
       by false = refl
 
@@ -115,7 +115,7 @@ module _ (text : List ℕ) where
   unfolding megahertz_cell
   megahertz_said f = by (is_yes f.given)
     where
-      by : (b : Bool) → said text (pick b (Megahertz f.hz) Dropped) ≡ megahertz (pick b (some f.hz) none)
+      by : (b : Bool) → said text (pick b (Megahertz f.hz) Dropped) ≡ megahertz (pick b (Some f.hz) None)
       by true = refl
       by false = refl
 
@@ -128,8 +128,8 @@ module _ (text : List ℕ) where
   unfolding entity_cell
   entity_said d = by (is_yes d.given)
     where
-      by : (b : Bool) → said text (pick b (Number (is_yes d.negative) d.size) Dropped) ≡ entity_text (pick b (some (signed (is_yes d.negative) d.size)) none)
-      by true = ap some (number_said (is_yes d.negative) d.size)
+      by : (b : Bool) → said text (pick b (Number (is_yes d.negative) d.size) Dropped) ≡ entity_text (pick b (Some (signed (is_yes d.negative) d.size)) None)
+      by true = ap Some (number_said (is_yes d.negative) d.size)
       by false = refl
 
   -- ---- one column more
@@ -137,12 +137,12 @@ module _ (text : List ℕ) where
       → cell_fields text (ascii name ∷ ns) (c ∷ cs) ≡ given name v ++ rest
   column name v c ns cs rest e f = by (is_dropped c) refl v e
     where
-      by : (b : Bool) → is_dropped c ≡ b → (w : Option (List ℕ)) → pick b none (some (cell_text text c)) ≡ w
+      by : (b : Bool) → is_dropped c ≡ b → (w : Option (List ℕ)) → pick b None (Some (cell_text text c)) ≡ w
           → pick b (cell_fields text ns cs) (record { name = ascii name; value = cell_text text c } ∷ cell_fields text ns cs) ≡ given name w ++ rest
-      by true d none g = f
-      by true d (some x) g = absurd (let z : ◌≡◌ {A = ℕ} 0 1 = cc in omega arith)
-      by false d none g = absurd (let z : ◌≡◌ {A = ℕ} 0 1 = cc in omega arith)
-      by false d (some x) g =
+      by true d None g = f
+      by true d (Some x) g = absurd (let z : ◌≡◌ {A = ℕ} 0 1 = cc in omega arith)
+      by false d None g = absurd (let z : ◌≡◌ {A = ℕ} 0 1 = cc in omega arith)
+      by false d (Some x) g =
           let h : cell_text text c ≡ x = cc in
           rw (h, f) refl
 

@@ -1,6 +1,7 @@
 -- Which names the columns take. Assumes nothing.
 use mathlib.Core.Path.{◌≡◌, refl, sym, ap, ◌∙◌}
-use mathlib.Core.Bool.{Bool, true, false}
+use mathlib.Core.Bool.{Bool, true, false, not}
+use mir.Val.{bool_byte}
 use mathlib.Core.List.{List, [], ◌∷◌}
 use Prim.Native.Nat.{ℕ, ◌+◌, ◌≤◌, ◌<◌}
 use native.Mathlib.Numerals.{add-one}
@@ -125,13 +126,21 @@ pub counting_start : (cells : List Cell) → Counting cells 0 0
 unfolding Counting
 counting_start cells = omega arith
 
-pub counting_on : (cells : List Cell) (n k : ℕ) → length cells ≡ 13 → k < 13 → (d : Cell) (b : Bool) → b ≡ is_dropped (get_or cells k d) → (m : ℕ) → m ≡ pick b 0 1
+byte_of : (b : Bool) → bool_byte (not b) ≡ pick b 0 1
+byte_of true = refl
+byte_of false = refl
+
+pub one_at_most : (b : Bool) (m : ℕ) → m ≡ bool_byte b → m ≤ 1
+one_at_most true m e = omega arith
+one_at_most false m e = omega arith
+
+pub counting_on : (cells : List Cell) (n k : ℕ) → length cells ≡ 13 → k < 13 → (d : Cell) (b : Bool) → b ≡ is_dropped (get_or cells k d) → (m : ℕ) → m ≡ bool_byte (not b)
     → Counting cells n k → Counting cells (n + m) (k + 1)
 unfolding Counting
 counting_on cells n k l h d b eb m em p =
     let v : drop k cells ≡ get_or cells k d ∷ drop (k + 1) cells = rw add-one (drop-cons cells k d (omega arith)) in
     let y : written_count (drop k cells) ≡ pick (is_dropped (get_or cells k d)) 0 1 + written_count (drop (k + 1) cells) = rw v refl in
-    let z : m ≡ pick (is_dropped (get_or cells k d)) 0 1 = em ∙ ap (λ (a : Bool). pick a 0 1) eb in
+    let z : m ≡ pick (is_dropped (get_or cells k d)) 0 1 = em ∙ byte_of b ∙ ap (λ (a : Bool). pick a 0 1) eb in
     omega arith
 
 pub counting_end : (cells : List Cell) (n k : ℕ) → length cells ≡ 13 → 13 ≤ k → Counting cells n k → n ≡ written_count cells

@@ -1,11 +1,9 @@
 -- Worked examples.
-use Rattle.std.specs.Prelude.{◌≡◌, refl, [], ◌∷◌, ◌++◌, negsuc}
-use Rattle.std.proofs.Math.Option.{none, some}
+use Rattle.std.specs.Prelude.{◌≡◌, refl, [], ◌∷◌, ◌++◌, negsuc, Err, None, Some}
 use Rattle.text.specs.Ascii.{ascii}
 use Rattle.decimal.specs.Digits.{digits, decimal}
 use Rattle.mhz.specs.Writing.{six_decimals}
 use Rattle.refusals.specs.declared.Refusal.TheVariants.{FrequencyTooHigh}
-use Rattle.refusals.specs.declared.Verdict.TheVariants.{Refused}
 use Rattle.tables.specs.Place.{value}
 use Rattle.model.specs.Contact.{Contact, contact}
 use Rattle.model.specs.Answer.{no_columns, no_frequency, no_dxcc, empty_qso}
@@ -21,14 +19,14 @@ example = record {
   time_on = [];
   band = [];
   mode = [];
-  submode = none;
-  freq = some 7_100_000;
-  freq_rx = none;
-  band_rx = some (ascii "40m");
-  rst_sent = none;
-  rst_rcvd = none;
-  gridsquare = none;
-  dxcc = some (negsuc 6);
+  submode = None;
+  freq = Some 7_100_000;
+  freq_rx = None;
+  band_rx = Some (ascii "40m");
+  rst_sent = None;
+  rst_rcvd = None;
+  gridsquare = None;
+  dxcc = Some (negsuc 6);
   extra = field "AGE" (ascii "7") ∷ field "BAND_RX" (ascii "x") ∷ field "MODE" (ascii "FM") ∷ field "ZZ" [] ∷ [];
 }
 
@@ -54,6 +52,6 @@ nothing_said = refl
 
 -- 14 comes before 11
 too_high : qso_verdict [] (record { columns = no_columns; freq = record { given = 1; hz = 8589934592000000 }; freq_rx = no_frequency; dxcc = no_dxcc }) [] 1
-    ≡ Refused FrequencyTooHigh
+    ≡ Err FrequencyTooHigh
 unfolding qso_verdict
 too_high = refl

@@ -1,7 +1,6 @@
 -- A contact as a record, as rigflow's `qso_to_record`: the fields of its columns and its extra fields, in byte order of their names.
-use Rattle.std.specs.Prelude.{ℕ, suc, List, [], ◌∷◌, ◌++◌, ℤ, pos, negsuc}
+use Rattle.std.specs.Prelude.{ℕ, suc, List, [], ◌∷◌, ◌++◌, ℤ, pos, negsuc, Option, None, Some}
 use Prim.Native.String.{String}
-use Rattle.std.proofs.Math.Option.{Option, none, some}
 use Rattle.text.specs.Ascii.{ascii}
 use Rattle.decimal.specs.Digits.{decimal}
 use Rattle.mhz.specs.Writing.{mhz_text}
@@ -18,26 +17,26 @@ abbrev pub always : String → List ℕ → List Field
 always name value = field name value ∷ []
 
 abbrev pub given : String → Option (List ℕ) → List Field
-given name none = []
-given name (some value) = always name value
+given name None = []
+given name (Some value) = always name value
 
 -- a frequency is written in megahertz with six decimals
 abbrev pub megahertz : Option ℕ → Option (List ℕ)
-megahertz none = none
-megahertz (some hz) = some (mhz_text hz)
+megahertz None = None
+megahertz (Some hz) = Some (mhz_text hz)
 
 -- the band of the receiver is written only where its frequency is
 abbrev pub split_only : Option ℕ → Option (List ℕ) → Option (List ℕ)
-split_only none b = none
-split_only (some hz) b = b
+split_only None b = None
+split_only (Some hz) b = b
 
 abbrev pub signed_text : ℤ → List ℕ
 signed_text (pos n) = decimal n
 signed_text (negsuc n) = 0x2D ∷ decimal (suc n)
 
 abbrev pub entity_text : Option ℤ → Option (List ℕ)
-entity_text none = none
-entity_text (some n) = some (signed_text n)
+entity_text None = None
+entity_text (Some n) = Some (signed_text n)
 
 -- CALL, QSO_DATE, TIME_ON and MODE are always written, even empty; an empty BAND is dropped
 unfoldable pub column_fields : Contact → List Field

@@ -16,12 +16,12 @@ ghost use Rattle.qsowriter.specs.Steps.{taken_by, written_count, as_first};
 
 use cells::Cell;
 use model::{Frequency, Qso};
-use refusals::{Refusal, Verdict, Written};
+use refusals::Refusal;
 
 // What was written, or why nothing was; and the QSO, unchanged.
 #[derive(Clone, Copy)]
 pub struct WrittenQso {
-    pub written: Written,
+    pub written: Result<usize, Refusal>,
     pub qso: Qso,
 }
 
@@ -33,36 +33,25 @@ fn is_too_high(f: Frequency) -> bool
 }
 
 // The column has that name.
-fn is_spelled(bytes: [u8; 12], n: usize, name: &[u8]) -> bool
-    requires { n ≤ 12 }
-    ensures { result ≡ same_raised (take n bytes) name.now }
-{
-    letters::same_raised(&bytes[..n], name)
-}
-
 fn is_named(k: usize, name: &[u8]) -> bool
     ensures { result ≡ same (name_at k) (capitals name.now) }
 {
     let column = cellfields::column_name(k);
-    let bytes = column.bytes;
-    is_spelled(bytes, column.len, name)
+    let spelled = &column.bytes[..column.len];
+    letters::same_raised(spelled, name)
 }
 
 // A column that is written has that name.
 fn is_written(cells: [Cell; 13], name: &[u8]) -> bool
     ensures { result ≡ taken_by column_order cells name.now }
 {
-    let mut k = 0;
-    while k < 13 {
-        let cell = cells[k];
+    for (k, &cell) in cells.iter().enumerate() {
         if cells::is_dropped(cell) {
-            k += 1;
             continue;
         }
         if is_named(k, name) {
             return true;
         }
-        k += 1;
     }
     false
 }
@@ -77,23 +66,13 @@ fn is_taken(cells: [Cell; 13], name: &[u8]) -> bool
     false
 }
 
-fn one_unless(t: bool) -> usize
-    ensures value { result ≡ pick t 0 1 }
-    ensures upper_bound { result ≤ 1 }
-{
-    if t { 0 } else { 1 }
-}
-
 fn written_count(cells: [Cell; 13]) -> usize
     ensures value { result ≡ written_count cells }
     ensures upper_bound { result ≤ 13 }
 {
     let mut n = 0;
-    let mut k = 0;
-    while k < 13 {
-        let cell = cells[k];
-        n += one_unless(cells::is_dropped(cell));
-        k += 1;
+    for &cell in cells.iter() {
+        n += usize::from(!cells::is_dropped(cell));
     }
     n
 }
@@ -122,70 +101,77 @@ fn with_row(taken: bool, c: usize) -> usize
 }
 
 // The extra rows one after the other: n is 0 before the first, c counts the fields so far, p is the row before.
-fn check_extra(text: &[u8], cells: [Cell; 13], table: &[u32], count: usize) -> Verdict
+fn check_extra(text: &[u8], cells: [Cell; 13], table: &[u32], count: usize) -> Result<(), Refusal>
     requires { count * 5 ≤ length table.now }
     ensures { result ≡ extra_verdict text.now (cell_fields text.now column_order cells) (rows_of table.now count) }
 {
     let mut n: u32 = 0;
     let mut c = written_count(cells);
     let mut p = [0u32; 5];
-    let mut i = 0;
-    while i < count {
+    for i in 0..count {
         let row = extra_at(table, i);
         let taken = is_taken(cells, rowcheck::name_of(text, row));
-        let v = rowcheck::verdict_of(text, n, in_the_way(taken, c), p, row);
-        if !rowcheck::is_fine(v) {
-            return v;
-        }
+        rowcheck::verdict_of(text, n, in_the_way(taken, c), p, row)?;
         c = with_row(taken, c);
         n = 1;
         p = row;
-        i += 1;
     }
-    Verdict::Accepted
+    Ok(())
 }
 
-fn verdict_of(text: &[u8], qso: Qso, cells: [Cell; 13], table: &[u32], count: usize) -> Verdict
+fn verdict_of(
+    text: &[u8],
+    qso: Qso,
+    cells: [Cell; 13],
+    table: &[u32],
+    count: usize,
+) -> Result<(), Refusal>
     requires { cells ≡ cells_of text.now qso }
     ensures { result ≡ qso_verdict text.now qso table.now count }
 {
     if refusals::LONGEST < text.len() {
-        return Verdict::Refused(Refusal::TooLong);
+        return Err(Refusal::TooLong);
     }
     if text::any(is_too_high(qso.freq), is_too_high(qso.freq_rx)) {
-        return Verdict::Refused(Refusal::FrequencyTooHigh);
+        return Err(Refusal::FrequencyTooHigh);
     }
     if !model::is_qso(text, qso) {
-        return Verdict::Refused(Refusal::BadRow);
+        return Err(Refusal::BadRow);
     }
     if table.len() / 5 < count {
-        return Verdict::Refused(Refusal::BadRow);
+        return Err(Refusal::BadRow);
     }
     check_extra(text, cells, table, count)
 }
 
 // The size of the text, at most one more than a text may have, or why it is not written.
-fn measured(text: &[u8], qso: Qso, cells: [Cell; 13], table: &[u32], count: usize) -> Written
+fn measured(
+    text: &[u8],
+    qso: Qso,
+    cells: [Cell; 13],
+    table: &[u32],
+    count: usize,
+) -> Result<usize, Refusal>
     requires { cells ≡ cells_of text.now qso }
     ensures { result ≡ sized_by (qso_verdict text.now qso table.now count) (capped (length (qso_text text.now qso (rows_of table.now count)))) }
 {
-    let v = verdict_of(text, qso, cells, table, count);
-    match v {
-        Verdict::Refused(why) => Written::Unwritten(why),
-        Verdict::Accepted => Written::Bytes(merge::merged_size(text, cells, table, count)),
-    }
+    verdict_of(text, qso, cells, table, count)?;
+    Ok(merge::merged_size(text, cells, table, count))
 }
 
-fn written_by(text: &[u8], qso: Qso, table: &[u32], count: usize, out: &mut [u8]) -> Written
+fn written_by(
+    text: &[u8],
+    qso: Qso,
+    table: &[u32],
+    count: usize,
+    out: &mut [u8],
+) -> Result<usize, Refusal>
     ensures value { result ≡ written_to text.now qso table.now count (length out.old) }
     ensures out_after { out.new ≡ output_after text.now qso table.now count out.old }
 {
     let cells = cells::cells_of(text, qso);
-    let fits = refusals::fit(measured(text, qso, cells, table, count), out.len());
-    match fits {
-        Written::Unwritten(why) => Written::Unwritten(why),
-        Written::Bytes(_) => Written::Bytes(merge::put_merged(out, text, cells, table, count)),
-    }
+    refusals::fit(measured(text, qso, cells, table, count), out.len())?;
+    Ok(merge::put_merged(out, text, cells, table, count))
 }
 
 // The text of the QSO and of the first `count` rows of the table, its extra fields, goes to the output.
@@ -193,6 +179,8 @@ pub fn write_qso(text: &[u8], qso: Qso, table: &[u32], count: usize, out: &mut [
     ensures value { result ≡ answer_to text.now qso table.now count (length out.old) }
     ensures out_after { out.new ≡ output_after text.now qso table.now count out.old }
 {
-    let written = written_by(text, qso, table, count, out);
-    WrittenQso { written, qso }
+    WrittenQso {
+        written: written_by(text, qso, table, count, out),
+        qso,
+    }
 }

@@ -1,4 +1,9 @@
 -- A turn of the reading, by the tag at its place. Assumes nothing.
+use Rattle.std.specs.Prelude.{Option, Some, None, Result, Ok, Err}
+use Rattle.tags.specs.declared.Tag.TheVariants
+use Rattle.tags.specs.declared.Tag.{Tag}
+use Rattle.reader.specs.declared.Reading.{Reading}
+use mathlib.Core.Logic.{◌⊎◌, inl, inr}
 use mathlib.Core.Path.{◌≡◌, refl, ◌∙◌}
 use mathlib.Core.List.{List, [], ◌∷◌}
 use Prim.Native.Nat.{ℕ, ◌+◌, ◌/◌, ◌≤◌, ◌<◌}
@@ -10,21 +15,13 @@ use borrow.Author.Tests.{le-leb}
 use Rattle.refusals.specs.declared.Refusal.{Refusal}
 use Rattle.refusals.specs.declared.Refusal.TheVariants.{ManyNames}
 use Rattle.tags.specs.Tags.{tag_at}
-use Rattle.tags.specs.declared.Tag.{Tag}
-use Rattle.tags.specs.declared.Tag.TheVariants
 use Rattle.tags.proofs.AheadLaws.{ahead}
-use Rattle.adif.specs.Records
-use Rattle.adif.specs.Records.{eor, field, on, refused, close, finish, put, act}
-use Rattle.adif.specs.Reading.{Row, row_name, rows, onto}
+use Rattle.text.specs.Run.{stop}
+use Rattle.adif.specs.Records.{refused, close, finish, put}
+use Rattle.adif.specs.Reading.{Row, row_name, rows}
 use Rattle.hand.specs.Rows.{Inserted}
-use Rattle.hand.specs.declared.Kept.{Kept}
-use Rattle.hand.specs.declared.Kept.TheVariants.{Used, Full}
 use Rattle.hand.proofs.InsertLaws.{used_is, full_is}
-use Rattle.reader.specs.Stands.{Stands, Closing, Closes, Finishes, Turned, Turns, of_closed, of_kept}
-use Rattle.reader.specs.declared.Reading.{Reading}
-use Rattle.reader.specs.declared.Reading.TheVariants.{Refused}
-use Rattle.reader.specs.declared.Closed.{Closed}
-use Rattle.reader.specs.declared.Closed.TheVariants as closing
+use Rattle.reader.specs.Stands.{Stands, Closing, Closes, Finishes, Turned, Turns}
 use Rattle.reader.specs.declared.Turn.{Turn}
 use Rattle.reader.specs.declared.Turn.TheVariants.{On, Over}
 
@@ -39,7 +36,7 @@ finish_any s i room [] (d ∷ ds) = refl
 finish_any s i room (h ∷ hs) (d ∷ ds) = refl
 
 -- the places of a field fit 32 bits
-module _ (text : List ℕ) (at : ℕ) (tag : Tag) (e : tag ≡ tag_at text at) (short : length text ≤ 16777216) (i a k v n : ℕ) (h : tag ≡ TheVariants.Field i a k v n) where
+module _ (text : List ℕ) (at : ℕ) (tag : Tag) (e : Ok tag ≡ tag_at text at) (short : length text ≤ 16777216) (i a k v n : ℕ) (h : tag ≡ TheVariants.Field i a k v n) where
   there : (at < v + n) × (v + n ≤ length text) × (a + k ≤ length text)
   there = rw h at (rw (← e) at (ahead text at))
 
@@ -58,64 +55,70 @@ module _ (text : List ℕ) (at : ℕ) (tag : Tag) (e : tag ≡ tag_at text at) (
   pub end_fits : Fits w64 (v + n)
   end_fits = omega (arith, there.1)
 
-module _ (text : List ℕ) (at : ℕ) (hand : List Row) (count used : ℕ) (hands : List Row) (before : List ℕ) (tag : Tag) (e : tag ≡ tag_at text at) where
-  module _ (after : List ℕ) (r : Reading) (F : Finishes hand count used (length text) before after r) where
-    pub turn_end : tag ≡ TheVariants.End → Turns text at hand count used hands before after (Over r)
-    unfolding Turns Finishes
-    turn_end h was done S = rw (← e, h) (_, refl, rw (finish_any text (length text) (length before / 5) hand done) (F was done S))
-
-    pub turn_eof : tag ≡ TheVariants.Eof → Turns text at hand count used hands before after (Over r)
-    unfolding Turns Finishes
-    turn_eof h was done S = rw (← e, h) (_, refl, rw (finish_any text (length text) (length before / 5) hand done) (F was done S))
-
-  pub turn_eoh : (next : ℕ) (r : Turn) → tag ≡ TheVariants.Eoh next → r ≡ of_kept (Used 0) 0 next count used → Turns text at hand count used hands before before r
+module _ (text : List ℕ) (at : ℕ) (hand : List Row) (closed : Reading) (hands : List Row) (before : List ℕ) where
+  pub turn_refused : (w : Refusal) → Err w ≡ tag_at text at → Turns text at hand closed.records closed.rows hands before before (Err w)
   unfolding Turns
-  turn_eoh next r h q was done S = rw (← e, h, q) (done, refl, omega arith, S)
+  turn_refused w e was done S = rw (← e) (refused w, refl, (refl, tt))
 
-  pub turn_refused : (w : Refusal) → tag ≡ TheVariants.Refused w → Turns text at hand count used hands before before (Over (Refused w))
-  unfolding Turns
-  turn_refused w h was done S = rw (← e, h) (refused w, refl, (refl, tt))
+  module _ (after : List ℕ) (x : Result Turn Refusal) where
+    abbrev Ends : Type 0
+    Ends = (was : List ℕ) (done : List (List Row)) → Stands was before closed.records closed.rows done
+        → Turned was after hands x (stop (finish (rows [] (length text)) (length before / 5) hand done))
 
-  module _ (i next : ℕ) (h : tag ≡ TheVariants.Eor i next) (after : List ℕ) (closed : Closed) (C : Closes hand count used i before after closed) where
-    closed_turn : (was : List ℕ) (x : Closed) (t : Records.Turn Row Refusal) → Closing was after x t → Turned was after hands (of_closed x next) (onto next t)
-    closed_turn was (closing.At n u) t (done, p, S) = rw p (done, refl, omega arith, S)
-    closed_turn was (closing.Refused w) t p = rw p (refused w, refl, (refl, tt))
-
-    pub turn_eor : (r : Turn) → r ≡ of_closed closed next → Turns text at hand count used hands before after r
-    unfolding Turns Closes
-    turn_eor r q was done S = rw (← e, h, q, close_any text i (length before / 5) hand done) (closed_turn was closed _ (C was done S))
-
-  module _ (i a k v n : ℕ) (h : tag ≡ TheVariants.Field i a k v n) (kept : Kept) (I : Inserted kept (put (row_name text) (a ∷ k ∷ v ∷ n ∷ []) hand) hands)
-      (entry : List Row) (k₁ : length hands ≡ length entry) (k₂ : length entry ≡ 256) where
-    l : length hands ≡ 256
-    l = k₁ ∙ k₂
-
-    abbrev row : Row
-    row = a ∷ k ∷ v ∷ n ∷ []
-
-    kept_turn : (was : List ℕ) (done : List (List Row)) → Stands was before count used done → (x : Kept) → Inserted x (put (row_name text) row hand) hands
-        → Turned was before hands (of_kept x i (v + n) count used) (onto (v + n) (act (rows text i) (length before / 5) hand done (field row)))
-    kept_turn was done S (Used m) J =
-        let w = used_is m (put (row_name text) row hand) hands J in
-        rw (le-leb (length (put (row_name text) row hand)) 256 (omega (arith, w.1))) (done, rw w.2, omega (arith, w.0, w.1), S)
-    kept_turn was done S Full J =
-        rw (rw l at (full_is (put (row_name text) row hand) hands J)) (refused (ManyNames i), refl, (refl, tt))
-
-    pub turn_field : (r : Turn) → r ≡ of_kept kept i (v + n) count used → Turns text at hand count used hands before before r
+    turn_end : (tag : Tag) → Ok tag ≡ tag_at text at → (tag ≡ TheVariants.End) ⊎ (tag ≡ TheVariants.Eof) → Ends → Turns text at hand closed.records closed.rows hands before after x
     unfolding Turns
-    turn_field r q was done S = rw (← e, h, q) (kept_turn was done S kept I)
+    turn_end tag e (inl h) F was done S = rw (← e, h, finish_any text (length text) (length before / 5) hand done) (F was done S)
+    turn_end tag e (inr h) F was done S = rw (← e, h, finish_any text (length text) (length before / 5) hand done) (F was done S)
 
--- the answers of the two small matches
-module _ (closed : Closed) (next : ℕ) where
-  pub closed_at_lem : (n u : ℕ) → closed ≡ closing.At n u → On next 0 n u ≡ of_closed closed next
-  closed_at_lem n u e = rw e refl
+  module _ (tag : Tag) (e : Ok tag ≡ tag_at text at) where
+    module _ (h : (tag ≡ TheVariants.End) ⊎ (tag ≡ TheVariants.Eof)) (after : List ℕ) where
+      pub turn_read : (r : Reading) → Finishes hand closed.records closed.rows (length text) before after (Ok r)
+          → Turns text at hand closed.records closed.rows hands before after (Ok (Over r))
+      unfolding Finishes
+      turn_read r F = turn_end after (Ok (Over r)) tag e h (λ was done S. (_, refl, F was done S))
 
-  pub closed_refused : (w : Refusal) → closed ≡ closing.Refused w → Over (Refused w) ≡ of_closed closed next
-  closed_refused w e = rw e refl
+      pub turn_unread : (w : Refusal) → Finishes hand closed.records closed.rows (length text) before after (Err w)
+          → Turns text at hand closed.records closed.rows hands before after (Err w)
+      unfolding Finishes
+      turn_unread w F = turn_end after (Err w) tag e h (λ was done S. (_, refl, F was done S))
 
-module _ (kept : Kept) (at next count used : ℕ) where
-  pub kept_used : (held : ℕ) → kept ≡ Used held → On next held count used ≡ of_kept kept at next count used
-  kept_used held e = rw e refl
+    pub turn_eoh : (next : ℕ) → tag ≡ TheVariants.Eoh next
+        → Turns text at hand closed.records closed.rows hands before before (Ok (On (record { at = next; held = 0; closed = closed })))
+    unfolding Turns
+    turn_eoh next h was done S = rw (← e, h) (done, refl, omega arith, S)
 
-  pub kept_full : kept ≡ Full → Over (Refused (ManyNames at)) ≡ of_kept kept at next count used
-  kept_full e = rw e refl
+    module _ (i next : ℕ) (h : tag ≡ TheVariants.Eor i next) (after : List ℕ) where
+      pub turn_eor : (r : Reading) → Closes hand closed.records closed.rows i before after (Ok r)
+          → Turns text at hand closed.records closed.rows hands before after (Ok (On (record { at = next; held = 0; closed = r })))
+      unfolding Turns Closes
+      turn_eor r C was done S =
+          let K : Closing was after (Ok r) (close (rows [] i) (length before / 5) hand done) = C was done S in
+          rw (← e, h, close_any text i (length before / 5) hand done, K.1) (K.0, refl, omega arith, K.2)
+
+      pub turn_eor_refused : (w : Refusal) → Closes hand closed.records closed.rows i before after (Err w)
+          → Turns text at hand closed.records closed.rows hands before after (Err w)
+      unfolding Turns Closes
+      turn_eor_refused w C was done S =
+          let K : Closing was after (Err w) (close (rows [] i) (length before / 5) hand done) = C was done S in
+          rw (← e, h, close_any text i (length before / 5) hand done, K) (refused w, refl, (refl, tt))
+
+    module _ (i a k v n : ℕ) (h : tag ≡ TheVariants.Field i a k v n) (kept : Option ℕ)
+        (I : Inserted kept (put (row_name text) (a ∷ k ∷ v ∷ n ∷ []) hand) hands) (entry : List Row) (k₁ : length hands ≡ length entry) (k₂ : length entry ≡ 256) where
+      l : length hands ≡ 256
+      l = k₁ ∙ k₂
+
+      abbrev row : Row
+      row = a ∷ k ∷ v ∷ n ∷ []
+
+      pub turn_field : (m : ℕ) → kept ≡ Some m → Turns text at hand closed.records closed.rows hands before before (Ok (On (record { at = v + n; held = m; closed = closed })))
+      unfolding Turns
+      turn_field m q was done S =
+          let J : Inserted (Some m) (put (row_name text) row hand) hands = rw q at I in
+          let w = used_is m (put (row_name text) row hand) hands J in
+          rw (← e, h) (rw (le-leb (length (put (row_name text) row hand)) 256 (omega (arith, w.1, l))) (done, rw w.2, omega (arith, w.0, w.1, l), S))
+
+      pub turn_many : kept ≡ None → Turns text at hand closed.records closed.rows hands before before (Err (ManyNames i))
+      unfolding Turns
+      turn_many q was done S =
+          let J : Inserted None (put (row_name text) row hand) hands = rw q at I in
+          rw (← e, h) (rw (rw l at (full_is (put (row_name text) row hand) hands J)) (refused (ManyNames i), refl, (refl, tt)))

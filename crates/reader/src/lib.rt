@@ -4,12 +4,11 @@
 #![tactic(auto)]
 
 ghost use Rattle.std.specs.Prelude.{◌≡◌, ◌+◌, ◌*◌, ◌-◌, ◌/◌, ◌≤◌, ◌++◌, length, take, replicate};
-ghost use Rattle.adif.specs.Reading.{read_tags};
+ghost use Rattle.adif.specs.Reading.{read_tags, read_text};
 ghost use Rattle.reader.specs.Table.{answer_of, answer_to, table_after, used_of, Shown};
-ghost use Rattle.reader.specs.Stands.{Closes, Finishes, Turns, of_closed, of_kept};
+ghost use Rattle.reader.specs.Stands.{Closes, Finishes, Turns};
 
-use hand::Kept;
-use refusals::{Refusal, Verdict};
+use refusals::Refusal;
 use tags::Tag;
 
 // As many names as a record may have, and as many records as a text may have.
@@ -18,27 +17,23 @@ const NAMES: usize = 256;
 const RECORDS: usize = 65_535;
 
 #[derive(Clone, Copy)]
-pub enum Reading {
-    Read { records: usize, rows: usize },
-    Refused(Refusal),
+pub struct Reading {
+    pub records: usize,
+    pub rows: usize,
 }
 
-// How many records are closed, and the rows they have taken.
+// How far the reading is: where the text goes on, how many fields are in hand, and how many records are closed, with their rows.
 #[derive(Clone, Copy)]
-enum Closed {
-    At { records: usize, rows: usize },
-    Refused(Refusal),
+struct Progress {
+    pub at: usize,
+    pub held: usize,
+    pub closed: Reading,
 }
 
-// After a tag: where the text goes on, with the fields in hand, or what comes of the reading.
+// After a tag: the reading goes on, or it is over.
 #[derive(Clone, Copy)]
 enum Turn {
-    On {
-        at: usize,
-        held: usize,
-        records: usize,
-        rows: usize,
-    },
+    On(Progress),
     Over(Reading),
 }
 
@@ -46,87 +41,43 @@ enum Turn {
 fn close(
     table: &mut [u32],
     hand: &[[u32; 4]],
-    held: usize,
-    records: usize,
-    rows: usize,
+    closed: Reading,
     at: usize,
-) -> Closed
-    requires { (held ≤ length hand.now) × (held ≤ 256) × (5 * rows ≤ length table.old) }
-    ensures { Closes (take held hand.now) records rows at table.old table.new result }
+) -> Result<Reading, Refusal>
+    requires { (length hand.now ≤ 256) × (5 * closed.rows ≤ length table.old) }
+    ensures { Closes hand.now closed.records closed.rows at table.old table.new result }
 {
-    if held == 0 {
-        return Closed::At { records, rows };
+    if hand.is_empty() {
+        return Ok(closed);
     }
-    if RECORDS <= records {
-        return Closed::Refused(Refusal::ManyRecords(at));
+    if RECORDS <= closed.records {
+        return Err(Refusal::ManyRecords(at));
     }
-    if table.len() - rows * 5 < held * 5 {
-        return Closed::Refused(Refusal::FewRows(at));
+    if table.len() - closed.rows * 5 < hand.len() * 5 {
+        return Err(Refusal::FewRows(at));
     }
-    hand::move_rows(table, rows * 5, (records + 1) as u32, hand, held);
-    Closed::At {
-        records: records + 1,
-        rows: rows + held,
-    }
+    let records = closed.records + 1;
+    hand::move_rows(table, closed.rows * 5, records as u32, hand, hand.len());
+    Ok(Reading {
+        records,
+        rows: closed.rows + hand.len(),
+    })
 }
 
 // At the end a record that is not closed counts only if a closed one came before. No tag closes it: the place is the text's length.
 fn finish(
     table: &mut [u32],
     hand: &[[u32; 4]],
-    held: usize,
-    records: usize,
-    rows: usize,
+    closed: Reading,
     at: usize,
-) -> Reading
-    requires { (held ≤ length hand.now) × (held ≤ 256) × (5 * rows ≤ length table.old) }
-    ensures { Finishes (take held hand.now) records rows at table.old table.new result }
+) -> Result<Reading, Refusal>
+    requires { (length hand.now ≤ 256) × (5 * closed.rows ≤ length table.old) }
+    ensures { Finishes hand.now closed.records closed.rows at table.old table.new result }
 {
-    if records == 0 {
-        return Reading::Read {
-            records: 0,
-            rows: 0,
-        };
+    if closed.records == 0 {
+        return Ok(closed);
     }
-    let closed = close(table, hand, held, records, rows, at);
-    match closed {
-        Closed::At {
-            records: all,
-            rows: used,
-        } => Reading::Read {
-            records: all,
-            rows: used,
-        },
-        Closed::Refused(why) => Reading::Refused(why),
-    }
-}
-
-fn of_closed(closed: Closed, next: usize) -> Turn
-    ensures { result ≡ of_closed closed next }
-{
-    match closed {
-        Closed::At { records, rows } => Turn::On {
-            at: next,
-            held: 0,
-            records: records,
-            rows: rows,
-        },
-        Closed::Refused(why) => Turn::Over(Reading::Refused(why)),
-    }
-}
-
-fn of_kept(kept: Kept, at: usize, next: usize, records: usize, rows: usize) -> Turn
-    ensures { result ≡ of_kept kept at next records rows }
-{
-    match kept {
-        Kept::Used(held) => Turn::On {
-            at: next,
-            held: held,
-            records: records,
-            rows: rows,
-        },
-        Kept::Full => Turn::Over(Reading::Refused(Refusal::ManyNames(at))),
-    }
+    close(table, hand, closed, at)
 }
 
 // The next tag, and what it makes of the record in hand and of the table.
@@ -134,20 +85,31 @@ fn next_turn(
     text: &[u8],
     table: &mut [u32],
     hand: &mut [[u32; 4]],
-    at: usize,
-    held: usize,
-    records: usize,
-    rows: usize,
-) -> Turn
-    requires { (length text.now ≤ 16777216) × (length hand.old ≡ 256) × (held ≤ 256) × (5 * rows ≤ length table.old) }
-    ensures { Turns text.now at (take held hand.old) records rows hand.new table.old table.new result }
+    so_far: Progress,
+) -> Result<Turn, Refusal>
+    requires { (length text.now ≤ 16777216) × (length hand.old ≡ 256) × (so_far.held ≤ 256) × (5 * so_far.closed.rows ≤ length table.old) }
+    ensures { Turns text.now so_far.at (take so_far.held hand.old) so_far.closed.records so_far.closed.rows hand.new table.old table.new result }
 {
-    let tag = tags::next_tag(text, at);
+    let Progress { at, held, closed } = so_far;
+    let tag = tags::next_tag(text, at)?;
     match tag {
-        Tag::End => Turn::Over(finish(table, hand, held, records, rows, text.len())),
-        Tag::Eof => Turn::Over(finish(table, hand, held, records, rows, text.len())),
-        Tag::Eoh(next) => of_kept(Kept::Used(0), 0, next, records, rows),
-        Tag::Eor { at: lt, next } => of_closed(close(table, hand, held, records, rows, lt), next),
+        Tag::End | Tag::Eof => {
+            let reading = finish(table, &hand[..held], closed, text.len())?;
+            Ok(Turn::Over(reading))
+        }
+        Tag::Eoh(next) => Ok(Turn::On(Progress {
+            at: next,
+            held: 0,
+            closed,
+        })),
+        Tag::Eor { at: lt, next } => {
+            let closed = close(table, &hand[..held], closed, lt)?;
+            Ok(Turn::On(Progress {
+                at: next,
+                held: 0,
+                closed,
+            }))
+        }
         Tag::Field {
             at: lt,
             name,
@@ -155,48 +117,52 @@ fn next_turn(
             value,
             value_length,
         } => {
-            let name_at = name as u32;
-            let name_size = name_length as u32;
-            let value_at = value as u32;
-            let value_size = value_length as u32;
-            let row = [name_at, name_size, value_at, value_size];
-            let kept = hand::with_field(text, hand, held, row);
-            of_kept(kept, lt, value + value_length, records, rows)
+            let row = [
+                name as u32,
+                name_length as u32,
+                value as u32,
+                value_length as u32,
+            ];
+            let held = hand::with_field(text, hand, held, row).ok_or(Refusal::ManyNames(lt))?;
+            Ok(Turn::On(Progress {
+                at: value + value_length,
+                held,
+                closed,
+            }))
         }
-        Tag::Refused(why) => Turn::Over(Reading::Refused(why)),
     }
 }
 
 // The tags of the text, one after the other.
-fn read_tags(text: &[u8], table: &mut [u32]) -> Reading
+fn read_tags(text: &[u8], table: &mut [u32]) -> Result<Reading, Refusal>
     requires { length text.now ≤ 16777216 }
     ensures value { result ≡ answer_of (read_tags text.now (length table.old / 5)) }
     ensures shown { Shown table.new (read_tags text.now (length table.old / 5)) }
 {
     let mut hand = [[0u32; 4]; NAMES];
-    let mut at = 0;
-    let mut held = 0;
-    let mut records = 0;
-    let mut rows = 0;
+    let mut so_far = Progress {
+        at: 0,
+        held: 0,
+        closed: Reading {
+            records: 0,
+            rows: 0,
+        },
+    };
     loop {
-        let turned = next_turn(text, table, &mut hand, at, held, records, rows);
-        match turned {
-            Turn::Over(reading) => {
-                return reading;
-            }
-            Turn::On {
-                at: next,
-                held: kept,
-                records: closed,
-                rows: used,
-            } => {
-                at = next;
-                held = kept;
-                records = closed;
-                rows = used;
-            }
+        match next_turn(text, table, &mut hand, so_far)? {
+            Turn::Over(reading) => return Ok(reading),
+            Turn::On(next) => so_far = next,
         }
     }
+}
+
+// The tags of a text that is not too long and is UTF-8.
+fn read_text(text: &[u8], table: &mut [u32]) -> Result<Reading, Refusal>
+    ensures value { result ≡ answer_to text.now table.old }
+    ensures shown { Shown table.new (read_text text.now (length table.old / 5)) }
+{
+    refusals::check_text(text)?;
+    read_tags(text, table)
 }
 
 // Zero from `from` on.
@@ -204,39 +170,26 @@ pub fn clear(table: &mut [u32], from: usize)
     requires { from ≤ length table.old }
     ensures { table.new ≡ take from table.old ++ replicate (length table.old - from) 0 }
 {
-    let mut i = from;
-    while i < table.len() {
-        table[i] = 0;
-        i += 1;
-    }
+    table[from..].fill(0);
 }
 
 // How many numbers of the table are used.
-fn used_by(reading: Reading) -> usize
+fn used_by(reading: Result<Reading, Refusal>) -> usize
     requires { used_of reading ≤ 18446744073709551615 }
     ensures { result ≡ used_of reading }
 {
     match reading {
-        Reading::Read { records: _, rows } => rows * 5,
-        Reading::Refused(_) => 0,
+        Ok(Reading { rows, .. }) => rows * 5,
+        Err(_) => 0,
     }
 }
 
 // As `parse_adif`. What the table held before is of no account: after a refusal it is zero throughout, and else past the used rows.
-pub fn read(text: &[u8], table: &mut [u32]) -> Reading
+pub fn read(text: &[u8], table: &mut [u32]) -> Result<Reading, Refusal>
     ensures value { result ≡ answer_to text.now table.old }
     ensures table_after { table.new ≡ table_after text.now table.old }
 {
-    let verdict = refusals::check_text(text);
-    match verdict {
-        Verdict::Refused(why) => {
-            clear(table, 0);
-            Reading::Refused(why)
-        }
-        Verdict::Accepted => {
-            let reading = read_tags(text, table);
-            clear(table, used_by(reading));
-            reading
-        }
-    }
+    let reading = read_text(text, table);
+    clear(table, used_by(reading));
+    reading
 }

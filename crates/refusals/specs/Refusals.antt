@@ -1,11 +1,9 @@
 -- The refusals, each with its number and the place that comes with it; and which plain texts are refused.
-use Rattle.std.specs.Prelude.{ℕ, ◌+◌, List, length, ltb}
+use Rattle.std.specs.Prelude.{ℕ, ◌+◌, List, length, ltb, ⊤, Result, Ok, Err}
 use Rattle.text.specs.Pick.{pick}
 use Rattle.text.specs.Utf8.{valid_up_to}
 use Rattle.refusals.specs.declared.Refusal.{Refusal}
 use Rattle.refusals.specs.declared.Refusal.TheVariants.{TooLong, NotUtf8, UnterminatedTag, MissingLength, BadLength, TruncatedValue, NonUtf8, ManyNames, ManyRecords, FewRows, BadRow, BadName, ShortOutput, FrequencyTooHigh, InexactFrequency, OtherVersion, MalformedList, IdsNotRising, ShortTable}
-use Rattle.refusals.specs.declared.Verdict.{Verdict}
-use Rattle.refusals.specs.declared.Verdict.TheVariants.{Accepted, Refused}
 
 abbrev pub number_of : Refusal → ℕ
 number_of TooLong = 1
@@ -135,14 +133,18 @@ left_of MalformedList = 0
 left_of IdsNotRising = 0
 left_of ShortTable = 0
 
+-- 2 where a text that stands after `before` bytes is not UTF-8
+unfoldable pub of_utf8 : List ℕ → ℕ → Result ⊤ Refusal
+of_utf8 s before = pick (ltb (valid_up_to s) (length s)) (Err (NotUtf8 (before + valid_up_to s))) (Ok tt)
+
 -- 1 above 16,777,216 bytes, then 2 where it is not UTF-8
-unfoldable pub of_text : List ℕ → Verdict
-of_text s = pick (ltb 16777216 (length s)) (Refused TooLong) (pick (ltb (valid_up_to s) (length s)) (Refused (NotUtf8 (valid_up_to s))) Accepted)
+unfoldable pub of_text : List ℕ → Result ⊤ Refusal
+of_text s = pick (ltb 16777216 (length s)) (Err TooLong) (pick (ltb (valid_up_to s) (length s)) (Err (NotUtf8 (valid_up_to s))) (Ok tt))
 
 -- of two texts 1 for either, then 2 for the first, then for the second, whose places go on after the first
-unfoldable pub of_texts : List ℕ → List ℕ → Verdict
+unfoldable pub of_texts : List ℕ → List ℕ → Result ⊤ Refusal
 of_texts a b =
-    pick (ltb 16777216 (length a)) (Refused TooLong)
-    (pick (ltb 16777216 (length b)) (Refused TooLong)
-    (pick (ltb (valid_up_to a) (length a)) (Refused (NotUtf8 (valid_up_to a)))
-    (pick (ltb (valid_up_to b) (length b)) (Refused (NotUtf8 (length a + valid_up_to b))) Accepted)))
+    pick (ltb 16777216 (length a)) (Err TooLong)
+    (pick (ltb 16777216 (length b)) (Err TooLong)
+    (pick (ltb (valid_up_to a) (length a)) (Err (NotUtf8 (valid_up_to a)))
+    (pick (ltb (valid_up_to b) (length b)) (Err (NotUtf8 (length a + valid_up_to b))) (Ok tt))))

@@ -1,14 +1,14 @@
 // Why a call refuses, with the numbers of docs/SCOPE.md; and the test of a plain text, which every call that takes one makes first.
 #![tactic(auto)]
 
-ghost use Rattle.std.specs.Prelude.{◌≡◌};
-ghost use Rattle.refusals.specs.Refusals.{number_of, place_of, name_of, name_length_of, wanted_of, left_of, of_text, of_texts};
+ghost use Rattle.std.specs.Prelude.{◌≡◌, ◌≤◌};
+ghost use Rattle.refusals.specs.Refusals.{number_of, place_of, name_of, name_length_of, wanted_of, left_of, of_utf8, of_text, of_texts};
 ghost use Rattle.refusals.specs.Written.{fitted};
 
 // The longest text, list or output, in bytes.
 pub const LONGEST: usize = 16_777_216;
 
-#[derive(Clone, Copy)]
+#[derive(Clone, Copy, PartialEq, Eq)]
 pub enum Refusal {
     TooLong,
     // with the place of the first bad byte
@@ -58,19 +58,7 @@ pub enum Refusal {
     ShortTable,
 }
 
-#[derive(Clone, Copy)]
-pub enum Verdict {
-    Accepted,
-    Refused(Refusal),
-}
-
 // What a call that writes says: how many bytes it wrote, or would write, or why it does not.
-#[derive(Clone, Copy)]
-pub enum Written {
-    Bytes(usize),
-    Unwritten(Refusal),
-}
-
 pub fn number(r: Refusal) -> u32
     ensures { result ≡ number_of r }
 {
@@ -102,25 +90,16 @@ pub fn place(r: Refusal) -> usize
     ensures { result ≡ place_of r }
 {
     match r {
-        Refusal::TooLong => 0,
-        Refusal::NotUtf8(at) => at,
-        Refusal::UnterminatedTag(at) => at,
-        Refusal::MissingLength { at, .. } => at,
-        Refusal::BadLength { at, .. } => at,
-        Refusal::TruncatedValue { at, .. } => at,
-        Refusal::NonUtf8 { at, .. } => at,
-        Refusal::ManyNames(at) => at,
-        Refusal::ManyRecords(at) => at,
-        Refusal::FewRows(at) => at,
-        Refusal::BadRow => 0,
-        Refusal::BadName => 0,
-        Refusal::ShortOutput => 0,
-        Refusal::FrequencyTooHigh => 0,
-        Refusal::InexactFrequency => 0,
-        Refusal::OtherVersion => 0,
-        Refusal::MalformedList => 0,
-        Refusal::IdsNotRising => 0,
-        Refusal::ShortTable => 0,
+        Refusal::NotUtf8(at)
+        | Refusal::UnterminatedTag(at)
+        | Refusal::MissingLength { at, .. }
+        | Refusal::BadLength { at, .. }
+        | Refusal::TruncatedValue { at, .. }
+        | Refusal::NonUtf8 { at, .. }
+        | Refusal::ManyNames(at)
+        | Refusal::ManyRecords(at)
+        | Refusal::FewRows(at) => at,
+        _ => 0,
     }
 }
 
@@ -129,25 +108,11 @@ pub fn name(r: Refusal) -> usize
     ensures { result ≡ name_of r }
 {
     match r {
-        Refusal::TooLong => 0,
-        Refusal::NotUtf8(_) => 0,
-        Refusal::UnterminatedTag(_) => 0,
-        Refusal::MissingLength { name, .. } => name,
-        Refusal::BadLength { name, .. } => name,
-        Refusal::TruncatedValue { name, .. } => name,
-        Refusal::NonUtf8 { name, .. } => name,
-        Refusal::ManyNames(_) => 0,
-        Refusal::ManyRecords(_) => 0,
-        Refusal::FewRows(_) => 0,
-        Refusal::BadRow => 0,
-        Refusal::BadName => 0,
-        Refusal::ShortOutput => 0,
-        Refusal::FrequencyTooHigh => 0,
-        Refusal::InexactFrequency => 0,
-        Refusal::OtherVersion => 0,
-        Refusal::MalformedList => 0,
-        Refusal::IdsNotRising => 0,
-        Refusal::ShortTable => 0,
+        Refusal::MissingLength { name, .. }
+        | Refusal::BadLength { name, .. }
+        | Refusal::TruncatedValue { name, .. }
+        | Refusal::NonUtf8 { name, .. } => name,
+        _ => 0,
     }
 }
 
@@ -155,25 +120,11 @@ pub fn name_length(r: Refusal) -> usize
     ensures { result ≡ name_length_of r }
 {
     match r {
-        Refusal::TooLong => 0,
-        Refusal::NotUtf8(_) => 0,
-        Refusal::UnterminatedTag(_) => 0,
-        Refusal::MissingLength { length, .. } => length,
-        Refusal::BadLength { length, .. } => length,
-        Refusal::TruncatedValue { length, .. } => length,
-        Refusal::NonUtf8 { length, .. } => length,
-        Refusal::ManyNames(_) => 0,
-        Refusal::ManyRecords(_) => 0,
-        Refusal::FewRows(_) => 0,
-        Refusal::BadRow => 0,
-        Refusal::BadName => 0,
-        Refusal::ShortOutput => 0,
-        Refusal::FrequencyTooHigh => 0,
-        Refusal::InexactFrequency => 0,
-        Refusal::OtherVersion => 0,
-        Refusal::MalformedList => 0,
-        Refusal::IdsNotRising => 0,
-        Refusal::ShortTable => 0,
+        Refusal::MissingLength { length, .. }
+        | Refusal::BadLength { length, .. }
+        | Refusal::TruncatedValue { length, .. }
+        | Refusal::NonUtf8 { length, .. } => length,
+        _ => 0,
     }
 }
 
@@ -182,25 +133,8 @@ pub fn wanted(r: Refusal) -> u64
     ensures { result ≡ wanted_of r }
 {
     match r {
-        Refusal::TooLong => 0,
-        Refusal::NotUtf8(_) => 0,
-        Refusal::UnterminatedTag(_) => 0,
-        Refusal::MissingLength { .. } => 0,
-        Refusal::BadLength { .. } => 0,
         Refusal::TruncatedValue { wanted, .. } => wanted,
-        Refusal::NonUtf8 { .. } => 0,
-        Refusal::ManyNames(_) => 0,
-        Refusal::ManyRecords(_) => 0,
-        Refusal::FewRows(_) => 0,
-        Refusal::BadRow => 0,
-        Refusal::BadName => 0,
-        Refusal::ShortOutput => 0,
-        Refusal::FrequencyTooHigh => 0,
-        Refusal::InexactFrequency => 0,
-        Refusal::OtherVersion => 0,
-        Refusal::MalformedList => 0,
-        Refusal::IdsNotRising => 0,
-        Refusal::ShortTable => 0,
+        _ => 0,
     }
 }
 
@@ -208,76 +142,58 @@ pub fn left(r: Refusal) -> u64
     ensures { result ≡ left_of r }
 {
     match r {
-        Refusal::TooLong => 0,
-        Refusal::NotUtf8(_) => 0,
-        Refusal::UnterminatedTag(_) => 0,
-        Refusal::MissingLength { .. } => 0,
-        Refusal::BadLength { .. } => 0,
         Refusal::TruncatedValue { left, .. } => left,
-        Refusal::NonUtf8 { .. } => 0,
-        Refusal::ManyNames(_) => 0,
-        Refusal::ManyRecords(_) => 0,
-        Refusal::FewRows(_) => 0,
-        Refusal::BadRow => 0,
-        Refusal::BadName => 0,
-        Refusal::ShortOutput => 0,
-        Refusal::FrequencyTooHigh => 0,
-        Refusal::InexactFrequency => 0,
-        Refusal::OtherVersion => 0,
-        Refusal::MalformedList => 0,
-        Refusal::IdsNotRising => 0,
-        Refusal::ShortTable => 0,
+        _ => 0,
     }
 }
 
-pub fn check_text(s: &[u8]) -> Verdict
+// The first bad byte of s, its place counted as though s stood after `before` bytes.
+#[inline(always)]
+#[tactic(auto, unfolding(crate::specs::Refusals::of_utf8))]
+fn check_utf8(s: &[u8], before: usize) -> Result<(), Refusal>
+    requires { before ≤ 16777216 }
+    ensures { result ≡ of_utf8 s.now before }
+{
+    let good = text::utf8::valid_up_to(s);
+    if good < s.len() {
+        return Err(Refusal::NotUtf8(before + good));
+    }
+    Ok(())
+}
+
+#[tactic(auto, unfolding(crate::specs::Refusals::of_utf8, crate::specs::Refusals::of_text))]
+pub fn check_text(s: &[u8]) -> Result<(), Refusal>
     ensures { result ≡ of_text s.now }
 {
     if LONGEST < s.len() {
-        return Verdict::Refused(Refusal::TooLong);
+        return Err(Refusal::TooLong);
     }
-    let good = text::utf8::valid_up_to(s);
-    if good < s.len() {
-        return Verdict::Refused(Refusal::NotUtf8(good));
-    }
-    Verdict::Accepted
+    check_utf8(s, 0)
 }
 
 // Two texts, their places counted as though b stood after a.
-pub fn check_texts(a: &[u8], b: &[u8]) -> Verdict
+#[tactic(auto, unfolding(crate::specs::Refusals::of_utf8, crate::specs::Refusals::of_texts))]
+pub fn check_texts(a: &[u8], b: &[u8]) -> Result<(), Refusal>
     ensures { result ≡ of_texts a.now b.now }
 {
-    if LONGEST < a.len() {
-        return Verdict::Refused(Refusal::TooLong);
+    if LONGEST < a.len() || LONGEST < b.len() {
+        return Err(Refusal::TooLong);
     }
-    if LONGEST < b.len() {
-        return Verdict::Refused(Refusal::TooLong);
-    }
-    let first = text::utf8::valid_up_to(a);
-    if first < a.len() {
-        return Verdict::Refused(Refusal::NotUtf8(first));
-    }
-    let second = text::utf8::valid_up_to(b);
-    if second < b.len() {
-        return Verdict::Refused(Refusal::NotUtf8(a.len() + second));
-    }
-    Verdict::Accepted
+    check_utf8(a, 0)?;
+    check_utf8(b, a.len())
 }
 
 // What was measured, for an output of so many bytes.
-pub fn fit(measured: Written, room: usize) -> Written
+#[tactic(auto, unfolding(crate::specs::Written::fitted))]
+pub fn fit(measured: Result<usize, Refusal>, room: usize) -> Result<usize, Refusal>
     ensures { result ≡ fitted measured room }
 {
-    match measured {
-        Written::Unwritten(why) => Written::Unwritten(why),
-        Written::Bytes(n) => {
-            if LONGEST < n {
-                return Written::Unwritten(Refusal::TooLong);
-            }
-            if room < n {
-                return Written::Unwritten(Refusal::ShortOutput);
-            }
-            Written::Bytes(n)
-        }
+    let n = measured?;
+    if LONGEST < n {
+        return Err(Refusal::TooLong);
     }
+    if room < n {
+        return Err(Refusal::ShortOutput);
+    }
+    Ok(n)
 }

@@ -2,7 +2,7 @@
 // A line is OPERATION ARG.. = ANSWER; what the library answers is written out and held against the line's own ANSWER.
 #![tactic(auto)]
 
-ghost use Rattle.std.specs.Prelude.{◌≤◌, length};
+ghost use Rattle.std.specs.Prelude.{◌≤◌, length, IfSome};
 
 use std::env::FillError;
 use std::fs::File;
@@ -16,70 +16,38 @@ struct Tally {
     agree: usize,
 }
 
-// What it answers on records, read, written and compared.
-fn records(op: &[u8], line: &[u8], a: &mut [u8], b: &mut [u8], out: &mut [u8]) -> usize
-    ensures { result ≤ length out.new }
+// What the library answers, put at the front of out; nothing where the operation is unknown.
+fn answered(line: &[u8], a: &mut [u8], b: &mut [u8], out: &mut [u8]) -> Option<usize>
+    ensures { IfSome result (λ n. n ≤ length out.new) }
 {
-    let d = answers_dedupe::answer(op, line, a, b, out);
-    if 0 < d {
-        return d;
+    let op = notation::word(line, 0);
+    if let Some(n) = answers_text::answer(op, line, a, b, out) {
+        return Some(n);
     }
-    let n = answers_reader::answer(op, line, a, out);
-    if 0 < n {
-        return n;
+    if let Some(n) = answers_mhz::answer(op, line, a, out) {
+        return Some(n);
+    }
+    if let Some(n) = answers_normalize::answer(op, line, a, b, out) {
+        return Some(n);
+    }
+    if let Some(n) = answers_dedupe::answer(op, line, a, b, out) {
+        return Some(n);
+    }
+    if let Some(n) = answers_reader::answer(op, line, a, out) {
+        return Some(n);
     }
     answers_writer::answer(op, line, a, out)
 }
 
-// What the library answers, put at the front of out; nothing where the operation is unknown.
-fn answered(line: &[u8], a: &mut [u8], b: &mut [u8], out: &mut [u8]) -> usize
-    ensures { result ≤ length out.new }
-{
-    let op = notation::word(line, 0);
-    let n = answers_text::answer(op, line, a, b, out);
-    if 0 < n {
-        return n;
-    }
-    let m = answers_mhz::answer(op, line, a, out);
-    if 0 < m {
-        return m;
-    }
-    let k = answers_normalize::answer(op, line, a, b, out);
-    if 0 < k {
-        return k;
-    }
-    records(op, line, a, b, out)
-}
-
-// 1 where the library answers as the line says, else 0; a, b and out are room to work in.
-fn agrees_in(line: &[u8], a: &mut [u8], b: &mut [u8], out: &mut [u8]) -> usize
-    ensures { result ≤ 1 }
-{
-    let n = answered(line, a, b, out);
-    if n == 0 {
-        return 0;
-    }
-    if letters::same(&out[..n], notation::answer(line)) {
-        1
-    } else {
-        0
-    }
-}
-
-fn agrees(line: &[u8]) -> usize
-    ensures { result ≤ 1 }
-{
+// Whether the library answers as the line says.
+fn agrees(line: &[u8]) -> bool {
     let mut a = [0u8; 1024];
     let mut b = [0u8; 1024];
     let mut out = [0u8; 1024];
-    agrees_in(line, &mut a, &mut b, &mut out)
-}
-
-// 1 for a vector, 0 for a comment.
-fn counts(line: &[u8]) -> usize
-    ensures { result ≤ 1 }
-{
-    if text::byte(line, 0) == b'#' { 0 } else { 1 }
+    match answered(line, &mut a, &mut b, &mut out) {
+        Some(n) => &out[..n] == notation::answer(line),
+        None => false,
+    }
 }
 
 // How many vectors there are, and how many agree.
@@ -90,14 +58,11 @@ fn count(s: &[u8]) -> Tally {
     while i < s.len() {
         let end = text::find(s, i, b'\n');
         let line = &s[i..end];
-        lines += counts(line);
-        agree += agrees(line);
+        lines += usize::from(text::byte(line, 0) != b'#');
+        agree += usize::from(agrees(line));
         i = end + 1;
     }
-    Tally {
-        lines: lines,
-        agree: agree,
-    }
+    Tally { lines, agree }
 }
 
 // At most a hundred files, so that the loop is seen to end. A name of more than 256 bytes stands for none.

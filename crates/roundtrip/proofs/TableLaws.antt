@@ -1,4 +1,5 @@
 -- What a table says that a reading left: the records that were read. Assumes nothing.
+use Rattle.std.specs.Prelude.{Ok}
 use mathlib.Core.Path.{◌≡◌, refl, sym, ap, ◌∙◌}
 use mathlib.Core.Bool.{Bool, true, false}
 use mathlib.Core.List.{List, [], ◌∷◌, ◌++◌, append_assoc, map}
@@ -16,7 +17,6 @@ use Rattle.adif.specs.Told.{field_of}
 use Rattle.adif.proofs.Mapped.{total_map}
 use Rattle.hand.specs.Rows.{numbered, laid}
 use Rattle.reader.specs.Table.{laid_from, zeros, answer_of, table_of, answer_to, table_after}
-use Rattle.reader.specs.declared.Reading.TheVariants.{Read}
 use Rattle.rowcheck.specs.Check.{Row, record_in}
 use Rattle.writer.specs.Rows.{row_at, rows_from, rows_of, row_field, ends_before, joined, grouped, records_of}
 use Rattle.trip.proofs.Back.{told}
@@ -119,7 +119,7 @@ some_of f (r ∷ rs) s = (rw (length-map r f) at s.0, some_of f rs s.1)
 
 -- what the reading of s tells is what the answer counts and the table says
 module _ (s table : List ℕ) (R : List (List Field)) (some : AllSome R) where
-  by_outcome : (o : reading.RowsRead) → told s o ≡ records R → (n : ℕ) → (answer_of o ≡ Read (length R) (total R)) × (records_of s (rows_of (table_of o n) (total R)) ≡ R)
+  by_outcome : (o : reading.RowsRead) → told s o ≡ records R → (n : ℕ) → (answer_of o ≡ Ok (record { records = length R; rows = total R })) × (records_of s (rows_of (table_of o n) (total R)) ≡ R)
   by_outcome (records rs) e n =
       let q : map (map (field_of s)) rs ≡ R = cc in
       let k : AllSome rs = some_of (field_of s) rs (rw q some) in
@@ -129,7 +129,7 @@ module _ (s table : List ℕ) (R : List (List Field)) (some : AllSome R) where
   by_outcome (refused w) e n = absurd (let z : ◌≡◌ {A = ℕ} 0 1 = cc in omega arith)
 
   module _ (e : told s (read_text s (length table / 5)) ≡ records R) where
-    pub answer_is : answer_to s table ≡ Read (length R) (total R)
+    pub answer_is : answer_to s table ≡ Ok (record { records = length R; rows = total R })
     unfolding answer_to
     answer_is = (by_outcome (read_text s (length table / 5)) e (length table)).0
 

@@ -1,4 +1,7 @@
 -- What holds of a row that the writer takes. Assumes nothing.
+use Rattle.std.specs.Prelude.{⊤, Result, Ok, Err}
+use Rattle.std.specs.declared.cmp.Ordering.{Ordering}
+use Rattle.std.specs.declared.cmp.Ordering.TheVariants.{Less, Equal, Greater}
 use mathlib.Core.Path.{◌≡◌, refl, sym, ◌∙◌}
 use mathlib.Core.Bool.{Bool, true, false}
 use mathlib.Core.List.{List}
@@ -9,89 +12,85 @@ use borrow.Author.Tests.{eqb-true, eqb-false, leb-true, ltb-true, eq-eqb, ne_eqb
 use Rattle.text.specs.Pick.{pick, both, either}
 use Rattle.text.proofs.BoolLaws.{both_left, both_right}
 use Rattle.letters.specs.Order.{order_raised}
-use Rattle.letters.specs.declared.Order.{Order}
-use Rattle.letters.specs.declared.Order.TheVariants.{Less, Equal, Greater}
 use Rattle.refusals.specs.declared.Refusal.{Refusal}
 use Rattle.refusals.specs.declared.Refusal.TheVariants.{BadRow, BadName, ManyNames, ManyRecords}
-use Rattle.refusals.specs.declared.Verdict.{Verdict}
-use Rattle.refusals.specs.declared.Verdict.TheVariants.{Accepted, Refused}
 use Rattle.rowcheck.specs.Check.{Row, record_in, name_in, placed, sound, is_less, follows, writable, counted, verdict, and_then, is_fine}
 
-pub refused_not : (why : Refusal) → Refused why ≡ Accepted → ⊥
+pub refused_not : (why : Refusal) → ◌≡◌ {A = Result ⊤ Refusal} (Err why) (Ok tt) → ⊥
 refused_not why e = let z : ◌≡◌ {A = ℕ} 0 1 = cc in omega arith
 
-pub fine : (v : Verdict) (f : Bool) → f ≡ is_fine v → f ≡ true → v ≡ Accepted
+pub fine : (v : Result ⊤ Refusal) (f : Bool) → f ≡ is_fine v → f ≡ true → v ≡ Ok tt
 fine v f e h = by v (sym e ∙ h)
   where
-    by : (w : Verdict) → is_fine w ≡ true → w ≡ Accepted
-    by Accepted e = refl
-    by (Refused why) e = absurd (let z : ◌≡◌ {A = ℕ} 0 1 = cc in omega arith)
+    by : (w : Result ⊤ Refusal) → is_fine w ≡ true → w ≡ Ok tt
+    by (Ok tt) e = refl
+    by (Err why) e = absurd (let z : ◌≡◌ {A = ℕ} 0 1 = cc in omega arith)
 
 -- a test that passed
-pub passed : (why : Refusal) (t : Bool) (v : Verdict) → pick t v (Refused why) ≡ Accepted → t ≡ true
+pub passed : (why : Refusal) (t : Bool) (v : Result ⊤ Refusal) → pick t v (Err why) ≡ Ok tt → t ≡ true
 passed why true v e = refl
 passed why false v e = absurd (refused_not why e)
 
-pub onward : (why : Refusal) (t : Bool) (v : Verdict) → pick t v (Refused why) ≡ Accepted → v ≡ Accepted
+pub onward : (why : Refusal) (t : Bool) (v : Result ⊤ Refusal) → pick t v (Err why) ≡ Ok tt → v ≡ Ok tt
 onward why true v e = e
 onward why false v e = absurd (refused_not why e)
 
-pub first_fine : (v w : Verdict) → and_then v w ≡ Accepted → v ≡ Accepted
-first_fine Accepted w e = refl
-first_fine (Refused why) w e = e
+pub first_fine : (v w : Result ⊤ Refusal) → and_then v w ≡ Ok tt → v ≡ Ok tt
+first_fine (Ok tt) w e = refl
+first_fine (Err why) w e = e
 
-pub rest_fine : (v w : Verdict) → and_then v w ≡ Accepted → w ≡ Accepted
-rest_fine Accepted w e = e
-rest_fine (Refused why) w e = absurd (refused_not why e)
+pub rest_fine : (v w : Result ⊤ Refusal) → and_then v w ≡ Ok tt → w ≡ Ok tt
+rest_fine (Ok tt) w e = e
+rest_fine (Err why) w e = absurd (refused_not why e)
 
-pub less : (o : Order) → is_less o ≡ true → o ≡ Less
+pub less : (o : Ordering) → is_less o ≡ true → o ≡ Less
 less Less e = refl
 less Equal e = absurd (let z : ◌≡◌ {A = ℕ} 0 1 = cc in omega arith)
 less Greater e = absurd (let z : ◌≡◌ {A = ℕ} 0 1 = cc in omega arith)
 
-module _ (text : List ℕ) (n c : ℕ) (p r : Row) (v : verdict text n c p r ≡ Accepted) where
+module _ (text : List ℕ) (n c : ℕ) (p r : Row) (v : verdict text n c p r ≡ Ok tt) where
   -- the tests that come after places, characters, order and name
-  abbrev after_names : Verdict
-  after_names = pick (leb (record_in r) 65535) Accepted (Refused (ManyRecords 0))
+  abbrev after_names : Result ⊤ Refusal
+  after_names = pick (leb (record_in r) 65535) (Ok tt) (Err (ManyRecords 0))
 
-  abbrev after_name : Verdict
-  after_name = pick (leb (counted n c r) 256) after_names (Refused (ManyNames 0))
+  abbrev after_name : Result ⊤ Refusal
+  after_name = pick (leb (counted n c r) 256) after_names (Err (ManyNames 0))
 
-  abbrev after_order : Verdict
-  after_order = pick (writable (name_in text r)) after_name (Refused BadName)
+  abbrev after_order : Result ⊤ Refusal
+  after_order = pick (writable (name_in text r)) after_name (Err BadName)
 
-  abbrev after_sound : Verdict
-  after_sound = pick (follows text n p r) after_order (Refused BadRow)
+  abbrev after_sound : Result ⊤ Refusal
+  after_sound = pick (follows text n p r) after_order (Err BadRow)
 
-  abbrev after_placed : Verdict
-  after_placed = pick (sound text r) after_sound (Refused BadRow)
+  abbrev after_placed : Result ⊤ Refusal
+  after_placed = pick (sound text r) after_sound (Err BadRow)
 
-  whole : pick (placed text r) after_placed (Refused BadRow) ≡ Accepted
+  whole : pick (placed text r) after_placed (Err BadRow) ≡ Ok tt
   unfolding verdict
   whole = v
 
   pub is_placed_lem : placed text r ≡ true
   is_placed_lem = passed BadRow (placed text r) after_placed whole
 
-  from_sound : after_placed ≡ Accepted
+  from_sound : after_placed ≡ Ok tt
   from_sound = onward BadRow (placed text r) after_placed whole
 
   pub is_sound : sound text r ≡ true
   is_sound = passed BadRow (sound text r) after_sound from_sound
 
-  from_order : after_sound ≡ Accepted
+  from_order : after_sound ≡ Ok tt
   from_order = onward BadRow (sound text r) after_sound from_sound
 
   follow : follows text n p r ≡ true
   follow = passed BadRow (follows text n p r) after_order from_order
 
-  from_name : after_order ≡ Accepted
+  from_name : after_order ≡ Ok tt
   from_name = onward BadRow (follows text n p r) after_order from_order
 
   pub is_writable : writable (name_in text r) ≡ true
   is_writable = passed BadName (writable (name_in text r)) after_name from_name
 
-  from_names : after_name ≡ Accepted
+  from_names : after_name ≡ Ok tt
   from_names = onward BadName (writable (name_in text r)) after_name from_name
 
   pub few_names : counted n c r ≤ 256
@@ -100,7 +99,7 @@ module _ (text : List ℕ) (n c : ℕ) (p r : Row) (v : verdict text n c p r ≡
   pub few_records : record_in r ≤ 65535
   few_records =
       leb-true (record_in r) 65535
-      (passed (ManyRecords 0) (leb (record_in r) 65535) Accepted (onward (ManyNames 0) (leb (counted n c r) 256) after_names from_names))
+      (passed (ManyRecords 0) (leb (record_in r) 65535) (Ok tt) (onward (ManyNames 0) (leb (counted n c r) 256) after_names from_names))
 
   -- the same record, with a higher name; or the next
   abbrev higher_name : Bool
@@ -153,7 +152,7 @@ unfolding Tally
 tally_few n c zero a b t = omega arith
 tally_few n c (suc i) a b t = omega (arith, t (omega arith))
 
-pub tally_on : (text : List ℕ) (n c i : ℕ) (p r : Row) → verdict text n c p r ≡ Accepted → c ≤ 256 → Tally n c i → Tally (record_in r) (counted n c r) (i + 1)
+pub tally_on : (text : List ℕ) (n c i : ℕ) (p r : Row) → verdict text n c p r ≡ Ok tt → c ≤ 256 → Tally n c i → Tally (record_in r) (counted n c r) (i + 1)
 unfolding Tally
 tally_on text n c zero p r v b t h = by (eqb n (record_in r)) refl
   where

@@ -1,20 +1,19 @@
 -- Which rows the writer takes, row by row.
-use Rattle.std.specs.Prelude.{Bool, true, false, List, [], ◌∷◌, ℕ, ◌+◌, length, get_or, leb, ltb, eqb}
+use Rattle.std.specs.declared.cmp.Ordering.{Ordering}
+use Rattle.std.specs.declared.cmp.Ordering.TheVariants.{Less, Equal, Greater}
+use Rattle.refusals.specs.declared.Refusal.{Refusal}
+use Rattle.std.specs.Prelude.{Bool, true, false, List, [], ◌∷◌, ℕ, ◌+◌, length, get_or, leb, ltb, eqb, ⊤, Result, Ok, Err}
 use Rattle.text.specs.Pick.{pick, both, either}
 use Rattle.text.specs.Walk.{ends}
 use Rattle.text.specs.Find.{other}
 use Rattle.text.specs.Utf8.{utf8}
 use Rattle.text.specs.Space.{trim_start, trim_end}
 use Rattle.letters.specs.Order.{order_raised}
-use Rattle.letters.specs.declared.Order.{Order}
-use Rattle.letters.specs.declared.Order.TheVariants.{Less, Equal, Greater}
 use Rattle.tags.specs.Tags.{colon, gt, kind_of}
 use Rattle.tags.specs.declared.Kind.{Kind}
 use Rattle.tags.specs.declared.Kind.TheVariants.{EndOfHeader, EndOfRecord, EndOfFile, FieldName}
 use Rattle.adif.specs.Reading.{part}
 use Rattle.refusals.specs.declared.Refusal.TheVariants.{BadRow, BadName, ManyNames, ManyRecords}
-use Rattle.refusals.specs.declared.Verdict.{Verdict}
-use Rattle.refusals.specs.declared.Verdict.TheVariants.{Accepted, Refused}
 
 -- a row of the lent table: the record's number, the name's place and length, the value's place and length
 abbrev pub Row : Type 0
@@ -37,7 +36,7 @@ unfoldable pub sound : List ℕ → Row → Bool
 sound text r = both (utf8 (name_in text r)) (utf8 (value_in text r))
 
 -- 11: out of order. After row p of record n comes the next record, or the same with a higher name; the first is record 1
-abbrev pub is_less : Order → Bool
+abbrev pub is_less : Ordering → Bool
 is_less Less = true
 is_less Equal = false
 is_less Greater = false
@@ -65,33 +64,33 @@ unfoldable pub counted : ℕ → ℕ → Row → ℕ
 counted n c r = pick (eqb (record_in r) n) (c + 1) 1
 
 -- the row r after row p, which was the c-th of record n: 11, 12, 8, 9
-unfoldable pub verdict : List ℕ → ℕ → ℕ → Row → Row → Verdict
+unfoldable pub verdict : List ℕ → ℕ → ℕ → Row → Row → Result ⊤ Refusal
 verdict text n c p r =
     pick (placed text r)
     (pick (sound text r)
     (pick (follows text n p r)
     (pick (writable (name_in text r))
     (pick (leb (counted n c r) 256)
-    (pick (leb (record_in r) 65535) Accepted (Refused (ManyRecords 0)))
-    (Refused (ManyNames 0)))
-    (Refused BadName))
-    (Refused BadRow))
-    (Refused BadRow))
-    (Refused BadRow)
+    (pick (leb (record_in r) 65535) (Ok tt) (Err (ManyRecords 0)))
+    (Err (ManyNames 0)))
+    (Err BadName))
+    (Err BadRow))
+    (Err BadRow))
+    (Err BadRow)
 
-abbrev pub is_fine : Verdict → Bool
-is_fine Accepted = true
-is_fine (Refused why) = false
+abbrev pub is_fine : Result ⊤ Refusal → Bool
+is_fine (Ok tt) = true
+is_fine (Err why) = false
 
 -- the first verdict that is not fine
-abbrev pub and_then : Verdict → Verdict → Verdict
-and_then Accepted w = w
-and_then (Refused why) w = Refused why
+abbrev pub and_then : Result ⊤ Refusal → Result ⊤ Refusal → Result ⊤ Refusal
+and_then (Ok tt) w = w
+and_then (Err why) w = Err why
 
-unfoldable pub check_from : List ℕ → ℕ → ℕ → Row → List Row → Verdict
-check_from text n c p [] = Accepted
+unfoldable pub check_from : List ℕ → ℕ → ℕ → Row → List Row → Result ⊤ Refusal
+check_from text n c p [] = Ok tt
 check_from text n c p (r ∷ rs) = and_then (verdict text n c p r) (check_from text (record_in r) (counted n c r) r rs)
 
 -- all rows, before which there is no record
-unfoldable pub check_of : List ℕ → List Row → Verdict
+unfoldable pub check_of : List ℕ → List Row → Result ⊤ Refusal
 check_of text rs = check_from text 0 0 (0 ∷ 0 ∷ 0 ∷ 0 ∷ 0 ∷ []) rs

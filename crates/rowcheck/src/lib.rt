@@ -6,8 +6,8 @@ ghost use Rattle.std.specs.Prelude.{◌≡◌, ◌+◌, ◌≤◌, get_or};
 ghost use Rattle.tags.specs.Tags.{kind_of};
 ghost use Rattle.rowcheck.specs.Check.{name_in, value_in, placed, lacks, is_field, is_less, writable, follows, counted, sound, verdict, is_fine};
 
-use letters::Order;
-use refusals::{Refusal, Verdict};
+use refusals::Refusal;
+use std::cmp::Ordering;
 use tags::Kind;
 
 // The most fields of a record, and the most records.
@@ -15,13 +15,11 @@ const NAMES: usize = 256;
 
 const RECORDS: u32 = 65_535;
 
-pub fn is_fine(v: Verdict) -> bool
+// Kept: crates above this one call it by name.
+pub fn is_fine(v: Result<(), Refusal>) -> bool
     ensures { result ≡ is_fine v }
 {
-    match v {
-        Verdict::Accepted => true,
-        Verdict::Refused(_) => false,
-    }
+    v.is_ok()
 }
 
 // The bytes of a row's name, and of its value.
@@ -43,42 +41,39 @@ fn end_of(at: u32, n: u32) -> usize
     at as usize + n as usize
 }
 
+#[tactic(auto, unfolding(crate::specs::Check::placed))]
 pub fn is_placed(text: &[u8], row: [u32; 5]) -> bool
     ensures { result ≡ placed text.now row }
 {
-    let m = end_of(row[1], row[2]);
-    let w = end_of(row[3], row[4]);
-    text::all(m <= text.len(), w <= text.len())
+    end_of(row[1], row[2]) <= text.len() && end_of(row[3], row[4]) <= text.len()
 }
 
+#[tactic(auto, unfolding(crate::specs::Check::sound))]
 pub fn is_sound(text: &[u8], row: [u32; 5]) -> bool
     ensures { result ≡ sound text.now row }
 {
-    let name = text::utf8::is_utf8(name_of(text, row));
-    let value = text::utf8::is_utf8(value_of(text, row));
-    text::all(name, value)
+    text::utf8::is_utf8(name_of(text, row)) && text::utf8::is_utf8(value_of(text, row))
 }
 
-pub fn is_less(o: Order) -> bool
+// Kept: crates above this one call it by name.
+pub fn is_less(o: Ordering) -> bool
     ensures { result ≡ is_less o }
 {
-    match o {
-        Order::Less => true,
-        Order::Equal => false,
-        Order::Greater => false,
-    }
+    o.is_lt()
 }
 
 // The row is of the next record, or of the same with a higher name than the row p before it.
+#[tactic(auto, unfolding(crate::specs::Check::follows))]
 fn does_follow(text: &[u8], n: u32, p: [u32; 5], row: [u32; 5]) -> bool
     requires { n ≤ 65535 }
     ensures { result ≡ follows text.now n p row }
 {
-    let order = letters::order_raised(name_of(text, p), name_of(text, row));
-    let same = text::all(0 < n, row[0] == n);
-    text::any(row[0] == n + 1, text::all(same, is_less(order)))
+    let next = row[0] == n + 1;
+    let same = 0 < n && row[0] == n;
+    next || same && letters::order_raised(name_of(text, p), name_of(text, row)).is_lt()
 }
 
+#[tactic(auto, unfolding(crate::specs::Check::lacks))]
 fn lacks_byte(s: &[u8], b: u8) -> bool
     ensures { result ≡ lacks b s.now }
 {
@@ -88,33 +83,22 @@ fn lacks_byte(s: &[u8], b: u8) -> bool
 fn is_field_name(name: &[u8]) -> bool
     ensures { result ≡ is_field (kind_of name.now) }
 {
-    let k = tags::kind_of(name);
-    match k {
-        Kind::EndOfHeader => false,
-        Kind::EndOfRecord => false,
-        Kind::EndOfFile => false,
-        Kind::FieldName => true,
-    }
+    matches!(tags::kind_of(name), Kind::FieldName)
 }
 
+#[tactic(auto, unfolding(crate::specs::Check::writable))]
 fn is_writable(name: &[u8]) -> bool
     ensures { result ≡ writable name.now }
 {
-    let trim = text::all(
-        text::space::trim_start(name) == 0,
-        text::space::trim_end(name) == name.len(),
-    );
-    let free = text::all(lacks_byte(name, b':'), lacks_byte(name, b'>'));
-    text::all(trim, text::all(free, is_field_name(name)))
-}
-
-fn can_be_named(text: &[u8], row: [u32; 5]) -> bool
-    ensures { result ≡ writable (name_in text.now row) }
-{
-    is_writable(name_of(text, row))
+    text::space::trim_start(name) == 0
+        && text::space::trim_end(name) == name.len()
+        && lacks_byte(name, b':')
+        && lacks_byte(name, b'>')
+        && is_field_name(name)
 }
 
 // How many fields the record has with this row, where record n had c.
+#[tactic(auto, unfolding(crate::specs::Check::counted))]
 pub fn count_with(n: u32, c: usize, row: [u32; 5]) -> usize
     requires { c ≤ 256 }
     ensures { result ≡ counted n c row }
@@ -129,27 +113,22 @@ pub fn record_of(row: [u32; 5]) -> u32
 }
 
 // The row after row p, which was the c-th of record n.
-pub fn verdict_of(text: &[u8], n: u32, c: usize, p: [u32; 5], row: [u32; 5]) -> Verdict
+#[tactic(auto, unfolding(crate::specs::Check::verdict))]
+pub fn verdict_of(text: &[u8], n: u32, c: usize, p: [u32; 5], row: [u32; 5]) -> Result<(), Refusal>
     requires { (n ≤ 65535) × (c ≤ 256) }
     ensures { result ≡ verdict text.now n c p row }
 {
-    if !is_placed(text, row) {
-        return Verdict::Refused(Refusal::BadRow);
+    if !(is_placed(text, row) && is_sound(text, row) && does_follow(text, n, p, row)) {
+        return Err(Refusal::BadRow);
     }
-    if !is_sound(text, row) {
-        return Verdict::Refused(Refusal::BadRow);
-    }
-    if !does_follow(text, n, p, row) {
-        return Verdict::Refused(Refusal::BadRow);
-    }
-    if !can_be_named(text, row) {
-        return Verdict::Refused(Refusal::BadName);
+    if !is_writable(name_of(text, row)) {
+        return Err(Refusal::BadName);
     }
     if NAMES < count_with(n, c, row) {
-        return Verdict::Refused(Refusal::ManyNames(0));
+        return Err(Refusal::ManyNames(0));
     }
     if RECORDS < row[0] {
-        return Verdict::Refused(Refusal::ManyRecords(0));
+        return Err(Refusal::ManyRecords(0));
     }
-    Verdict::Accepted
+    Ok(())
 }

@@ -1,4 +1,5 @@
 -- A record of the index matches exactly if its contact does, and the walk down a chain finds the first that does. Assumes nothing.
+use Rattle.std.specs.Prelude.{Option, Some, None}
 use mathlib.Core.Path.{◌≡◌, refl, sym, ap, ◌∙◌}
 use mathlib.Core.Bool.{Bool, true, false}
 use mathlib.Core.List.{List, [], ◌∷◌}
@@ -16,8 +17,6 @@ use Rattle.letters.proofs.SameLaws.{same_true, same_raised_true}
 use Rattle.tables.specs.Place.{bytes}
 use Rattle.times.specs.Moments.{moment_of}
 use Rattle.times.specs.Window.{apart, reaches, is_within, limit_of}
-use Rattle.times.specs.declared.Moment.{Moment}
-use Rattle.times.specs.declared.Moment.TheVariants.{At, Never}
 use Rattle.chain.specs.Chain.{over, first, or_else, col}
 use Rattle.chain.proofs.Chains.{over_hit, over_miss}
 use Rattle.chain.proofs.Walks.{First, or_or, first_start, first_on, first_end, next_less}
@@ -43,14 +42,14 @@ use Rattle.search.specs.Steps.{row_moment, row_matches, row_tested, entry_in}
 use Rattle.search.proofs.ReadyLaws.{contact_there, contacts_length, Ready, ready}
 
 -- ---- a record's moment
-halves : (x : ℕ) → joined (low x) (high x) ≡ x
+pub halves : (x : ℕ) → joined (low x) (high x) ≡ x
 unfolding low high
 halves x = omega (arith, div-add-mod' x 4294967296)
 
-pub moment_back : (m : Moment) → moment_from (has_moment m) (joined (low (seconds_in m)) (high (seconds_in m))) ≡ m
+pub moment_back : (m : Option ℕ) → moment_from (has_moment m) (joined (low (seconds_in m)) (high (seconds_in m))) ≡ m
 unfolding moment_from has_moment seconds_in
-moment_back (At x) = rw (halves x) refl
-moment_back Never = refl
+moment_back (Some x) = rw (halves x) refl
+moment_back None = refl
 
 -- ---- what a record that is a contact's says
 module _ (s : List ℕ) (row : Row) (p : ℕ) (e : free_of row ≡ free_of (row_at s p)) where
@@ -58,20 +57,20 @@ module _ (s : List ℕ) (row : Row) (p : ℕ) (e : free_of row ≡ free_of (row_
   unfolding row_at row_by row_of
   row_code = ap (λ (r : Row). get_or r 0 0) e
 
-  pub row_matches_lem : (call mode band : List ℕ) (moment : Moment) (limit : ℕ) → row_matches s row call mode band moment limit ≡ matches call mode band moment limit (contact_at s p)
+  pub row_matches_lem : (call mode band : List ℕ) (moment : Option ℕ) (limit : ℕ) → row_matches s row call mode band moment limit ≡ matches call mode band moment limit (contact_at s p)
   unfolding row_matches row_moment matches moment_in contact_at row_at row_by row_of
   row_matches_lem call mode band moment limit =
       let a : get_or row 6 0 ≡ call_at p = ap (λ (r : Row). get_or r 4 0) e in
       let b : get_or row 9 0 ≡ band_at s p = ap (λ (r : Row). get_or r 7 0) e in
       let d : get_or row 10 0 ≡ mode_at s p = ap (λ (r : Row). get_or r 8 0) e in
-      let m : Moment = moment_of (text_at s (date_at s p)) (text_at s (time_at s p)) in
+      let m : Option ℕ = moment_of (text_at s (date_at s p)) (text_at s (time_at s p)) in
       let f : get_or row 11 0 ≡ has_moment m = ap (λ (r : Row). get_or r 9 0) e in
       let g : get_or row 12 0 ≡ low (seconds_in m) = ap (λ (r : Row). get_or r 10 0) e in
       let h : get_or row 13 0 ≡ high (seconds_in m) = ap (λ (r : Row). get_or r 11 0) e in
       rw (a, b, d, f, g, h, moment_back m) refl
 
 -- ---- what matches has the code
-pub match_code : (call mode band : List ℕ) (moment : Moment) (limit : ℕ) (c : Contact) → matches call mode band moment limit c ≡ true → code_of (call_of c) (mode_of c) (band_of c) ≡ code_of call mode band
+pub match_code : (call mode band : List ℕ) (moment : Option ℕ) (limit : ℕ) (c : Contact) → matches call mode band moment limit c ≡ true → code_of (call_of c) (mode_of c) (band_of c) ≡ code_of call mode band
 unfolding matches in_log code_of
 match_code call mode band moment limit c e =
     let k = both_left (in_log call mode band (call_of c) (mode_of c) (band_of c)) _ e in
@@ -217,22 +216,27 @@ module _ (s : List ℕ) (cs : List Kept.Contact) (text : List ℕ) (w : Wanted) 
   pub chain_in : code % n < length cs
   chain_in = rw (plain_length cs) at (bucket_in s (plain cs) text w limit n code I hn)
 
-  pub find_first : (row : Row) (at : ℕ) → row ≡ numbers_of (get_or cs (code % n) no_contact) → at ≡ get_or row 0 0 → Walking s (plain cs) text w limit n code at (hit 0 0)
-  find_first row at er ea = find_start s (plain cs) text w limit n code I ec hn at (ea ∙ rw (er, plain_at cs (code % n) chain_in) refl)
+  pub find_first : Walking s (plain cs) text w limit n code (get_or cs (code % n) no_contact).head (hit 0 0)
+  find_first = find_start s (plain cs) text w limit n code I ec hn (get_or cs (code % n) no_contact).head (rw (plain_at cs (code % n) chain_in) refl)
 
   module _ (at : ℕ) (best : Hit) (W : Walking s (plain cs) text w limit n code at best) (na : at ≡ 0 → ⊥) where
     pub contact_in : at - 1 < length cs
     contact_in = rw (plain_length cs) at (row_in s (plain cs) text w limit n code I ec hn at best W na)
 
-    module _ (row : Row) (x : ℕ) (er : row ≡ numbers_of (get_or cs (at - 1) no_contact)) (ex : x ≡ get_or row 1 0) where
-      there : row ≡ get_or (plain cs) (at - 1) []
-      there = er ∙ sym (plain_at cs (at - 1) contact_in)
+    abbrev c : Kept.Contact
+    c = get_or cs (at - 1) no_contact
 
-      pub find_next : (y : Hit) → y ≡ pick (row_tested s row text w code limit) (hit at (entry_in row)) best → Walking s (plain cs) text w limit n code x y
-      find_next y ey = find_on s (plain cs) text w limit n code I ec hn at best W na x y (ey ∙ rw there refl) (ex ∙ rw there refl)
+    there : numbers_of c ≡ get_or (plain cs) (at - 1) []
+    there = sym (plain_at cs (at - 1) contact_in)
 
-      pub find_down : x < at
-      find_down = find_less s (plain cs) text w limit n code I ec hn at best W na x (ex ∙ rw there refl)
+    next : c.next ≡ get_or (get_or (plain cs) (at - 1) []) 1 0
+    next = ap (λ (r : Row). get_or r 1 0) there
+
+    pub find_next : (y : Hit) → y ≡ pick (row_tested s (numbers_of c) text w code limit) (hit at (entry_in (numbers_of c))) best → Walking s (plain cs) text w limit n code c.next y
+    find_next y ey = find_on s (plain cs) text w limit n code I ec hn at best W na c.next y (ey ∙ rw there refl) next
+
+    pub find_down : c.next < at
+    find_down = find_less s (plain cs) text w limit n code I ec hn at best W na c.next next
 
 pub short_list : (s : List ℕ) (n : ℕ) (rows : List Row) → Indexed s n rows → length s ≤ 16777216
 unfolding Indexed
@@ -250,7 +254,7 @@ module _ (s : List ℕ) (row : Row) (text : List ℕ) (w : Wanted) (limit code :
   unfolding row_tested
   match_other p e n = rw (ne_eqb (get_or row 2 0) code (λ z. n (e ∙ z))) refl
 
-  module _ (p : ℕ) (x : Moment) (t : Bool) (e : p ≡ get_or row 2 0) (f : p ≡ code) (ex : x ≡ row_moment row) (et : t ≡ near w.moment x limit) where
+  module _ (p : ℕ) (x : Option ℕ) (t : Bool) (e : p ≡ get_or row 2 0) (f : p ≡ code) (ex : x ≡ row_moment row) (et : t ≡ near w.moment x limit) where
     pub match_far : t ≡ false → false ≡ Test
     unfolding row_tested row_matches
     match_far n =
@@ -264,39 +268,31 @@ module _ (s : List ℕ) (row : Row) (text : List ℕ) (w : Wanted) (limit code :
         let q : r ≡ Own = er ∙ rw (ek, ea, eb, ed, place_says s (get_or row 6 0), place_says s (get_or row 10 0), place_says s (get_or row 9 0)) refl in
         rw (eq-eqb (get_or row 2 0) code (sym e ∙ f), u) (q ∙ sym (both_yes Own))
 
-pub entry_low : (row : Row) (call : ℕ) → call ≡ get_or row 6 0 → call < 11 → 0 ≡ entry_in row
-unfolding entry_in
-entry_low row call e h = rw (← e) (omega arith)
-
-pub entry_is : (row : Row) (call : ℕ) → call ≡ get_or row 6 0 → 11 ≤ call → call - 11 ≡ entry_in row
-unfolding entry_in
-entry_is row call e h = rw (← e) refl
-
 pub found_it : (t u : Bool) (number e p : ℕ) (best : Hit) → t ≡ u → t ≡ true → p ≡ e → hit number p ≡ pick u (hit number e) best
 found_it t u number e p best et h ep = rw (← et, h, ep) refl
 
 pub found_before : {A : Type 0} (t u : Bool) (x y : A) → t ≡ u → t ≡ false → y ≡ pick u x y
 found_before t u x y e h = rw (← e, h) refl
 
-pub no_moment : (there x : ℕ) → there ≡ 0 → Never ≡ moment_from there x
+pub no_moment : (there x : ℕ) → there ≡ 0 → None ≡ moment_from there x
 unfolding moment_from
 no_moment there x e = rw e refl
 
-pub a_moment : (there x : ℕ) → (there ≡ 0 → ⊥) → At x ≡ moment_from there x
+pub a_moment : (there x : ℕ) → (there ≡ 0 → ⊥) → Some x ≡ moment_from there x
 unfolding moment_from
 a_moment zero x n = absurd (n refl)
 a_moment (suc k) x n = refl
 
 -- ---- nearness: with the window's limit it is what `times` calls within the window
-pub near_never : (a b : Moment) (limit : ℕ) → a ≡ Never → false ≡ near a b limit
+pub near_never : (a b : Option ℕ) (limit : ℕ) → a ≡ None → false ≡ near a b limit
 unfolding near
 near_never a b limit e = rw e refl
 
-pub never_near : (a b : Moment) (limit x : ℕ) → a ≡ At x → b ≡ Never → false ≡ near a b limit
+pub never_near : (a b : Option ℕ) (limit x : ℕ) → a ≡ Some x → b ≡ None → false ≡ near a b limit
 unfolding near
 never_near a b limit x e f = rw (e, f) refl
 
-pub both_near : (a b : Moment) (limit x y d : ℕ) → a ≡ At x → b ≡ At y → d ≡ apart x y → ltb d limit ≡ near a b limit
+pub both_near : (a b : Option ℕ) (limit x y d : ℕ) → a ≡ Some x → b ≡ Some y → d ≡ apart x y → ltb d limit ≡ near a b limit
 unfolding near
 both_near a b limit x y d e f g = rw (e, f, g) refl
 
@@ -308,8 +304,8 @@ reached d (pos n) =
     (λ u. rw u (le-ltb d (n + 1) (omega (arith, leb-false d n u))))
 reached d (negsuc n) = le-ltb d 0 (omega arith)
 
-pub near_within : (a b : Moment) (w : ℤ) → near a b (limit_of w) ≡ is_within a b w
+pub near_within : (a b : Option ℕ) (w : ℤ) → near a b (limit_of w) ≡ is_within a b w
 unfolding near is_within
-near_within Never b w = refl
-near_within (At x) Never w = refl
-near_within (At x) (At y) w = reached (apart x y) w
+near_within None b w = refl
+near_within (Some x) None w = refl
+near_within (Some x) (Some y) w = reached (apart x y) w

@@ -1,30 +1,27 @@
 -- The first contact of the log that a record matches: as untrimmed call, ASCII case aside, exact mode and band, within the window.
-use Rattle.std.specs.Prelude.{ℕ, zero, suc, ◌≡◌, Bool, false, List, [], ◌∷◌, length, ltb}
+use Rattle.std.specs.Prelude.{ℕ, zero, suc, ◌≡◌, Bool, false, List, [], ◌∷◌, length, ltb, Option, Some, None, Ok}
 use Rattle.text.specs.Pick.{pick, both}
 use Rattle.tables.specs.Place.{bytes}
 use Rattle.times.specs.Moments.{moment_of}
 use Rattle.times.specs.Window.{apart}
-use Rattle.times.specs.declared.Moment.{Moment}
-use Rattle.times.specs.declared.Moment.TheVariants.{At, Never}
 use Rattle.contacts.specs.Contacts.{Contact, call_of, date_of, time_of, band_of, mode_of}
 use Rattle.contacts.specs.Lists.{end_at, contacts_of}
-use Rattle.contacts.specs.declared.Listed.TheVariants.{Marked}
 use Rattle.index.specs.Rows.{Row}
 use Rattle.indexing.specs.Index.{indexed_as, index_after}
 use Rattle.dedupe.specs.Keys.{in_log}
 use Rattle.wanted.specs.declared.Wanted.{Wanted}
 use Rattle.search.specs.declared.Hit.{Hit}
 
--- the limit is one more than the window, and 0 where the window is below zero: `limitOf` of `times`, with which this is `isWithin`
-unfoldable pub near : Moment → Moment → ℕ → Bool
-near Never b limit = false
-near (At x) Never limit = false
-near (At x) (At y) limit = ltb (apart x y) limit
+-- the limit is one more than the window, and 0 where the window is below zero: `limit_of` of `times`, with which this is `is_within`
+unfoldable pub near : Option ℕ → Option ℕ → ℕ → Bool
+near None b limit = false
+near (Some x) None limit = false
+near (Some x) (Some y) limit = ltb (apart x y) limit
 
-unfoldable pub moment_in : Contact → Moment
+unfoldable pub moment_in : Contact → Option ℕ
 moment_in c = moment_of (date_of c) (time_of c)
 
-unfoldable pub matches : List ℕ → List ℕ → List ℕ → Moment → ℕ → Contact → Bool
+unfoldable pub matches : List ℕ → List ℕ → List ℕ → Option ℕ → ℕ → Contact → Bool
 matches call mode band moment limit c =
     both (in_log call mode band (call_of c) (mode_of c) (band_of c)) (near moment (moment_in c) limit)
 
@@ -34,7 +31,7 @@ unfoldable pub first_from : (Contact → Bool) → ℕ → List Contact → ℕ
 first_from passes k [] = 0
 first_from passes k (c ∷ cs) = pick (passes c) (suc k) (first_from passes (suc k) cs)
 
-unfoldable pub first_match : List ℕ → List ℕ → List ℕ → Moment → ℕ → List Contact → ℕ
+unfoldable pub first_match : List ℕ → List ℕ → List ℕ → Option ℕ → ℕ → List Contact → ℕ
 first_match call mode band moment limit cs = first_from (matches call mode band moment limit) 0 cs
 
 -- of what is wanted over a text
@@ -58,4 +55,4 @@ hit_of s number = hit number (place_of s number)
 
 -- the index was built of the list, which has n contacts
 unfoldable pub Indexed : List ℕ → ℕ → List Row → Type 0
-Indexed s n rows = (top : ℕ) × (indexed_as s (length rows) ≡ Marked n top) × (rows ≡ index_after s (length rows))
+Indexed s n rows = (top : ℕ) × (indexed_as s (length rows) ≡ Ok (record { contacts = n; largest = top })) × (rows ≡ index_after s (length rows))

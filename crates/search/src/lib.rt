@@ -5,13 +5,12 @@
 ghost use Rattle.std.specs.Prelude.{◌≡◌, ◌≤◌, length};
 ghost use Rattle.text.specs.Pick.{pick};
 ghost use Rattle.index.specs.Rows.{joined, moment_from};
-ghost use Rattle.index.specs.Contacts.{plain};
+ghost use Rattle.index.specs.Contacts.{numbers_of, plain};
 ghost use Rattle.wanted.specs.Wanted.{code_for};
 ghost use Rattle.search.specs.Search.{near, hit, hit_of, first_for, Indexed};
 ghost use Rattle.search.specs.Steps.{row_moment, row_tested, entry_in};
 
 use index::Contact;
-use times::Moment;
 use wanted::Wanted;
 
 // A contact by its number in the list, from 1, and the place of its entry; both 0 for none.
@@ -24,77 +23,60 @@ pub struct Hit {
 const HALF: u64 = 4_294_967_296;
 
 // The moment that a record keeps as numbers.
-pub fn moment_from(there: u32, low: u32, high: u32) -> Moment
+pub fn moment_from(there: u32, low: u32, high: u32) -> Option<u64>
     ensures { result ≡ moment_from there (joined low high) }
 {
     if there == 0 {
-        return Moment::Never;
+        return None;
     }
-    Moment::At(low as u64 + high as u64 * HALF)
+    Some(low as u64 + high as u64 * HALF)
 }
 
 // Both are moments, and nearer than the limit.
-pub fn is_near(a: Moment, b: Moment, limit: u64) -> bool
+pub fn is_near(a: Option<u64>, b: Option<u64>, limit: u64) -> bool
     ensures { result ≡ near a b limit }
 {
-    match a {
-        Moment::Never => false,
-        Moment::At(x) => match b {
-            Moment::Never => false,
-            Moment::At(y) => times::window::distance(x, y) < limit,
-        },
+    match (a, b) {
+        (Some(x), Some(y)) => times::window::distance(x, y) < limit,
+        _ => false,
     }
 }
 
-fn moment_in(row: [u32; 14]) -> Moment
-    ensures { result ≡ row_moment row }
+fn moment_in(c: Contact) -> Option<u64>
+    ensures { result ≡ row_moment (numbers_of c) }
 {
-    moment_from(row[11], row[12], row[13])
+    if c.timed == 0 {
+        return None;
+    }
+    Some(c.seconds)
 }
 
 // The same code, then the times, then the texts.
-fn is_match(
-    list: &[u8],
-    row: [u32; 14],
-    text: &[u8],
-    wanted: Wanted,
-    code: usize,
-    limit: u64,
-) -> bool
+fn is_match(list: &[u8], c: Contact, text: &[u8], wanted: Wanted, code: usize, limit: u64) -> bool
     requires { length list.now ≤ 16777216 }
-    ensures { result ≡ row_tested list.now row text.now wanted code limit }
+    ensures { result ≡ row_tested list.now (numbers_of c) text.now wanted code limit }
 {
-    if index::number_in(row, 2) != code {
+    if c.code as usize != code {
         return false;
     }
-    let moment = wanted.moment;
-    if !is_near(moment, moment_in(row), limit) {
+    if !is_near(wanted.moment, moment_in(c), limit) {
         return false;
     }
-    let own = wanted::key_at(
-        list,
-        index::number_in(row, 6),
-        index::number_in(row, 10),
-        index::number_in(row, 9),
-    );
+    let own = wanted::key_at(list, c.call as usize, c.mode as usize, c.band as usize);
     dedupe::in_log(text, wanted.key, list, own)
 }
 
 // Where the entry of a record's contact stands: eleven bytes before its call.
-fn entry_in(row: [u32; 14]) -> usize
-    ensures { result ≡ entry_in row }
+fn entry_in(c: Contact) -> usize
+    ensures { result ≡ entry_in (numbers_of c) }
 {
-    let call = index::number_in(row, 6);
-    if call < 11 {
-        return 0;
-    }
-    call - 11
+    (c.call as usize).saturating_sub(11)
 }
 
 // The contact of a record, which has this number, if it matches; else what was found before.
 fn found(
     list: &[u8],
-    row: [u32; 14],
+    c: Contact,
     number: usize,
     text: &[u8],
     wanted: Wanted,
@@ -103,12 +85,12 @@ fn found(
     best: Hit,
 ) -> Hit
     requires { length list.now ≤ 16777216 }
-    ensures { result ≡ pick (row_tested list.now row text.now wanted code limit) (hit number (entry_in row)) best }
+    ensures { result ≡ pick (row_tested list.now (numbers_of c) text.now wanted code limit) (hit number (entry_in (numbers_of c))) best }
 {
-    if is_match(list, row, text, wanted, code, limit) {
+    if is_match(list, c, text, wanted, code, limit) {
         return Hit {
             number,
-            place: entry_in(row),
+            place: entry_in(c),
         };
     }
     best
@@ -140,12 +122,11 @@ pub fn find(text: &[u8], list: &[u8], rows: &[Contact], n: usize, wanted: Wanted
     }
     let code = code_for(text, wanted);
     let b = code % n;
-    let mut at = index::number_in(index::numbers_of(rows[b]), 0);
+    let mut at = rows[b].head as usize;
     while at != 0 {
-        let i = at - 1;
-        let row = index::numbers_of(rows[i]);
-        best = found(list, row, at, text, wanted, code, limit, best);
-        at = index::number_in(row, 1);
+        let c = rows[at - 1];
+        best = found(list, c, at, text, wanted, code, limit, best);
+        at = c.next as usize;
     }
     best
 }

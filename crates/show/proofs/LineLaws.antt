@@ -7,85 +7,13 @@ use native.Mathlib.Numerals.{add-one}
 use native.Mathlib.Omega.{arith}
 use lib.Dec.{eqb}
 use lib.ListN.{length, get_or, length-append}
-use borrow.Author.Tests.{ne_eqb}
 use Rattle.text.specs.Pick.{pick}
-use Rattle.text.specs.Ascii.{ascii}
 use Rattle.decimal.specs.Digits.{decimal}
 use Rattle.output.specs.Put.{Put, Room}
 use Rattle.output.proofs.PutLaws.{put_none, put_then, put_length, put_next, room_first, room_next}
 use Rattle.output.proofs.DigitLaws.{few_decimals}
 use Rattle.chain.specs.Chain.{col}
 use Rattle.show.specs.Shown.{fate_name, blank, newline, line_of, lines_of}
-
--- ---- the name of a fate
-module _ (f : ℕ) (was : List ℕ) (at : ℕ) where
-  module _ (e : f ≡ 1) where
-    pub importable_room : Room was at (fate_name f) → Room was at (ascii "importable")
-    unfolding fate_name
-    importable_room h = rw e at h
-
-    pub importable_put : (r : ℕ) (now : List ℕ) → Put r was now at (ascii "importable") → Put r was now at (fate_name f)
-    unfolding fate_name
-    importable_put r now p = rw e p
-
-  module _ (e : f ≡ 2) where
-    pub in_log_room : Room was at (fate_name f) → Room was at (ascii "duplicate-in-log")
-    unfolding fate_name
-    in_log_room h = rw e at h
-
-    pub in_log_put : (r : ℕ) (now : List ℕ) → Put r was now at (ascii "duplicate-in-log") → Put r was now at (fate_name f)
-    unfolding fate_name
-    in_log_put r now p = rw e p
-
-  module _ (e : f ≡ 3) where
-    pub in_file_room : Room was at (fate_name f) → Room was at (ascii "duplicate-in-file")
-    unfolding fate_name
-    in_file_room h = rw e at h
-
-    pub in_file_put : (r : ℕ) (now : List ℕ) → Put r was now at (ascii "duplicate-in-file") → Put r was now at (fate_name f)
-    unfolding fate_name
-    in_file_put r now p = rw e p
-
-  module _ (e : f ≡ 4) where
-    pub unusable_room : Room was at (fate_name f) → Room was at (ascii "unusable")
-    unfolding fate_name
-    unusable_room h = rw e at h
-
-    pub unusable_put : (r : ℕ) (now : List ℕ) → Put r was now at (ascii "unusable") → Put r was now at (fate_name f)
-    unfolding fate_name
-    unusable_put r now p = rw e p
-
-  module _ (e : f ≡ 5) where
-    pub confirmed_room : Room was at (fate_name f) → Room was at (ascii "confirmed")
-    unfolding fate_name
-    confirmed_room h = rw e at h
-
-    pub confirmed_put : (r : ℕ) (now : List ℕ) → Put r was now at (ascii "confirmed") → Put r was now at (fate_name f)
-    unfolding fate_name
-    confirmed_put r now p = rw e p
-
-  module _ (e : f ≡ 6) where
-    pub unmatched_room : Room was at (fate_name f) → Room was at (ascii "unmatched")
-    unfolding fate_name
-    unmatched_room h = rw e at h
-
-    pub unmatched_put : (r : ℕ) (now : List ℕ) → Put r was now at (ascii "unmatched") → Put r was now at (fate_name f)
-    unfolding fate_name
-    unmatched_put r now p = rw e p
-
-  module _ (e : f ≡ 7) where
-    pub ignored_room : Room was at (fate_name f) → Room was at (ascii "ignored")
-    unfolding fate_name
-    ignored_room h = rw e at h
-
-    pub ignored_put : (r : ℕ) (now : List ℕ) → Put r was now at (ascii "ignored") → Put r was now at (fate_name f)
-    unfolding fate_name
-    ignored_put r now p = rw e p
-
-  pub nameless : (f ≡ 1 → ⊥) → (f ≡ 2 → ⊥) → (f ≡ 3 → ⊥) → (f ≡ 4 → ⊥) → (f ≡ 5 → ⊥) → (f ≡ 6 → ⊥) → (f ≡ 7 → ⊥) → Put at was was at (fate_name f)
-  unfolding fate_name
-  nameless a b c d e g h =
-      rw (ne_eqb f 1 a, ne_eqb f 2 b, ne_eqb f 3 c, ne_eqb f 4 d, ne_eqb f 5 e, ne_eqb f 6 g, ne_eqb f 7 h) (put_none was at)
 
 -- ---- a line
 module _ (k f r : ℕ) (was : List ℕ) (at : ℕ) where
@@ -161,6 +89,3 @@ module _ (was now : List ℕ) (rows : List (List ℕ)) (at i n : ℕ) (p : Put a
   unfolding lines_of
   lines_on row e r after s =
       rw (add-one i) (put_then r at was now after 0 (lines_of rows i) (line_of (suc i) (col rows i 0) (col rows i 1)) p (rw (e, add-one i) at s))
-
-  pub lines_end : i ≤ n → n ≤ i → Put at was now 0 (lines_of rows n)
-  lines_end g h = let z : i ≡ n = omega arith in rw z at p

@@ -1,13 +1,14 @@
 -- The summary behind the lines, and the other two answers. Assumes nothing.
+use Rattle.std.specs.Prelude.{Result, Ok, IsOk}
 use mathlib.Core.Path.{◌≡◌, refl, sym, ap, ◌∙◌}
 use mathlib.Core.Bool.{Bool, true, false}
 use mathlib.Core.List.{List, [], ◌++◌}
-use Prim.Native.Nat.{ℕ, ◌+◌, ◌≤◌, ◌<◌}
+use Prim.Native.Nat.{ℕ, ◌+◌, ◌≤◌}
 use native.Mathlib.Omega.{arith}
-use lib.Dec.{eqb, leb, ltb}
+use lib.Dec.{eqb, ltb}
 use lib.ListN.{length, take, drop, replicate, length-replicate}
 use lib.Seq.{sets, sets-eq, take_at, length-sets, length-take-le}
-use borrow.Author.Tests.{lt-ltb, le-ltb}
+use borrow.Author.Tests.{le-ltb}
 use Rattle.text.specs.Pick.{pick}
 use Rattle.text.specs.Ascii.{ascii}
 use Rattle.decimal.specs.Digits.{decimal}
@@ -16,13 +17,10 @@ use Rattle.output.proofs.PutLaws.{put_then, put_length, put_next, room_first, ro
 use Rattle.refusals.specs.declared.Refusal.{Refusal}
 use Rattle.refusals.specs.Refusals.{number_of, place_of}
 use Rattle.summary.specs.declared.Counts.{Counts}
-use Rattle.summary.specs.declared.Line.{Line}
-use Rattle.summary.specs.declared.Line.TheVariants.{Bytes, Refused}
 use Rattle.summary.specs.Summary.{counted, dot, further, part, found, confirmed, left_out, summary_text, answer_to, output_after}
 use Rattle.plan.specs.Fates.{fates_in}
 use Rattle.plan.specs.Plan.{counts_with}
 use Rattle.show.specs.Shown.{blank, newline, lines_of, plan_text, has_place, told_text, refused_text, too_long_text}
-use Rattle.show.specs.Parts.{size_of}
 use Rattle.show.proofs.LineLaws.{few, joined_few, picked_few, lines_few}
 
 -- ---- how long a summary is
@@ -71,15 +69,6 @@ summary_few c =
     (confirmed_few c.confirmations c.already_confirmed)
     (left_few c.duplicates c.unmatched c.unusable))
 
--- ---- the length of a line
-pub size_bytes : (line : Line) (n : ℕ) → line ≡ Bytes n → n ≡ size_of line
-unfolding size_of
-size_bytes line n e = rw e refl
-
-pub size_refused : (line : Line) (why : Refusal) → line ≡ Refused why → 0 ≡ size_of line
-unfolding size_of
-size_refused line why e = rw e refl
-
 -- ---- the summary written into 512 bytes of its own
 abbrev own : List ℕ
 own = replicate 512 0
@@ -91,31 +80,38 @@ module _ (c : Counts) where
   tested : ltb (length own) (length (summary_text c)) ≡ false
   tested = le-ltb (length own) (length (summary_text c)) (omega (arith, fits))
 
-  module _ (line : Line) (e : line ≡ answer_to c own) (n : ℕ) (en : n ≡ size_of line) where
-    pub size_is : n ≡ length (summary_text c)
-    unfolding answer_to size_of
-    size_is = en ∙ rw (e, tested) refl
+  module _ (line : Result ℕ Refusal) (e : line ≡ answer_to c own) where
+    written : line ≡ Ok (length (summary_text c))
+    unfolding answer_to
+    written = e ∙ rw tested refl
 
-    module _ (now : List ℕ) (ew : now ≡ output_after c own) where
-      now_is : now ≡ sets own 0 (summary_text c)
-      unfolding output_after
-      now_is = ew ∙ rw tested refl
+    pub is_written : IsOk line
+    is_written = rw written refl
 
-      pub size_within : n ≤ length now
-      size_within = omega (arith, size_is, fits, ap length now_is, length-sets own 0 (summary_text c))
+    module _ (n : ℕ) (en : line ≡ Ok n) where
+      size_is : n ≡ length (summary_text c)
+      size_is = let y : ◌≡◌ {A = Result ℕ Refusal} (Ok n) (Ok (length (summary_text c))) = sym en ∙ written in cc
 
-      pub front_size : n ≡ length (take n now)
-      front_size = sym (length-take-le n now size_within)
+      module _ (now : List ℕ) (ew : now ≡ output_after c own) where
+        now_is : now ≡ sets own 0 (summary_text c)
+        unfolding output_after
+        now_is = ew ∙ rw tested refl
 
-      front_is : take n now ≡ summary_text c
-      front_is = rw (size_is, now_is, sets-eq (summary_text c) own 0 fits, take_at (summary_text c) (drop (0 + length (summary_text c)) own) (length (summary_text c)) refl)
+        pub size_within : n ≤ length now
+        size_within = omega (arith, size_is, fits, ap length now_is, length-sets own 0 (summary_text c))
 
-      module _ (was : List ℕ) (at : ℕ) where
-        pub front_room : Room was at (summary_text c) → Room was at (take n now)
-        front_room h = rw front_is h
+        pub front_size : n ≡ length (take n now)
+        front_size = sym (length-take-le n now size_within)
 
-        pub front_put : (r : ℕ) (after : List ℕ) → Put r was after at (take n now) → Put r was after at (summary_text c)
-        front_put r after p = rw front_is at p
+        front_is : take n now ≡ summary_text c
+        front_is = rw (size_is, now_is, sets-eq (summary_text c) own 0 fits, take_at (summary_text c) (drop (0 + length (summary_text c)) own) (length (summary_text c)) refl)
+
+        module _ (was : List ℕ) (at : ℕ) where
+          pub front_room : Room was at (summary_text c) → Room was at (take n now)
+          front_room h = rw front_is h
+
+          pub front_put : (r : ℕ) (after : List ℕ) → Put r was after at (take n now) → Put r was after at (summary_text c)
+          front_put r after p = rw front_is at p
 
 -- ---- it stands behind the lines
 module _ (rows : List (List ℕ)) (n : ℕ) (was : List ℕ) (q : ℕ) (mid : List ℕ) (p : Put q was mid 0 (lines_of rows n)) where
@@ -136,15 +132,6 @@ module _ (rows : List (List ℕ)) (n : ℕ) (was : List ℕ) (q : ℕ) (mid : Li
       rw (← e) (put_then r q was mid now 0 (lines_of rows n) (summary_text c ++ newline) p (put_then r q' mid mid' now q (summary_text c) newline p' s))
 
 -- ---- one line for a refusal: its number of at most 20 digits, its place and a byte behind each
-module _ (n : ℕ) where
-  pub without_place : n < 2 → false ≡ has_place n
-  unfolding has_place
-  without_place h = rw (lt-ltb n 2 h)
-
-  pub placed_to : (b : Bool) → 2 ≤ n → b ≡ leb n 10 → b ≡ has_place n
-  unfolding has_place
-  placed_to b h e = rw (le-ltb n 2 h) e
-
 module _ (n at : ℕ) where
   pub told_few : length (told_text n at) ≤ 42
   unfolding told_text

@@ -6,10 +6,9 @@ ghost use Rattle.decimal.specs.Digits.{decimal};
 ghost use Rattle.output.specs.Put.{Put, Room};
 ghost use Rattle.summary.specs.Summary.{summary_text};
 ghost use Rattle.show.specs.Shown.{fate_name, line_of, lines_of, plan_text, has_place, told_text, refused_text, too_long_text};
-ghost use Rattle.show.specs.Parts.{size_of};
 
 use refusals::Refusal;
-use summary::{Counts, Line};
+use summary::Counts;
 
 // A number and the byte after it.
 fn put_number(out: &mut [u8], at: usize, n: u64, after: u8) -> usize
@@ -20,39 +19,27 @@ fn put_number(out: &mut [u8], at: usize, n: u64, after: u8) -> usize
     output::put_byte(out, a, after)
 }
 
-fn put_name(out: &mut [u8], at: usize, fate: u32) -> usize
-    requires { Room out.old at (fate_name fate) }
-    ensures { Put result out.old out.new at (fate_name fate) }
+#[tactic(auto, unfolding(crate::specs::Shown::fate_name))]
+fn name(fate: u32) -> &'static [u8]
+    ensures { result.now ≡ fate_name fate }
 {
-    if fate == 1 {
-        return output::put_bytes(out, at, b"importable");
+    match fate {
+        1 => b"importable",
+        2 => b"duplicate-in-log",
+        3 => b"duplicate-in-file",
+        4 => b"unusable",
+        5 => b"confirmed",
+        6 => b"unmatched",
+        7 => b"ignored",
+        _ => b"",
     }
-    if fate == 2 {
-        return output::put_bytes(out, at, b"duplicate-in-log");
-    }
-    if fate == 3 {
-        return output::put_bytes(out, at, b"duplicate-in-file");
-    }
-    if fate == 4 {
-        return output::put_bytes(out, at, b"unusable");
-    }
-    if fate == 5 {
-        return output::put_bytes(out, at, b"confirmed");
-    }
-    if fate == 6 {
-        return output::put_bytes(out, at, b"unmatched");
-    }
-    if fate == 7 {
-        return output::put_bytes(out, at, b"ignored");
-    }
-    at
 }
 
 fn put_named(out: &mut [u8], at: usize, fate: u32) -> usize
     requires { Room out.old at (fate_name fate ++ (32 ∷ [])) }
     ensures { Put result out.old out.new at (fate_name fate ++ (32 ∷ [])) }
 {
-    let a = put_name(out, at, fate);
+    let a = output::put_bytes(out, at, name(fate));
     output::put_byte(out, a, b' ')
 }
 
@@ -79,22 +66,10 @@ fn put_lines(out: &mut [u8], rows: &[[u32; 28]], n: usize) -> usize
     ensures { Put result out.old out.new 0 (lines_of rows.now n) }
 {
     let mut at = 0;
-    let mut i = 0;
-    while i < n {
-        at = put_row(out, at, (i + 1) as u64, rows[i]);
-        i += 1;
+    for (i, row) in rows[..n].iter().enumerate() {
+        at = put_row(out, at, (i + 1) as u64, *row);
     }
     at
-}
-
-// The length of a line that was written.
-fn line_size(line: Line) -> usize
-    ensures { result ≡ size_of line }
-{
-    match line {
-        Line::Bytes(n) => n,
-        Line::Refused(_) => 0,
-    }
 }
 
 fn put_summary(out: &mut [u8], at: usize, c: Counts) -> usize
@@ -102,7 +77,7 @@ fn put_summary(out: &mut [u8], at: usize, c: Counts) -> usize
     ensures { Put result out.old out.new at (summary_text c) }
 {
     let mut line = [0u8; 512];
-    let n = line_size(summary::write_summary(c, &mut line));
+    let n = summary::write_summary(c, &mut line).unwrap();
     output::put_bytes(out, at, &line[..n])
 }
 
@@ -128,10 +103,11 @@ pub fn write_plan(
 }
 
 // Whether the refusal of this number tells a place of the text.
+#[tactic(auto, unfolding(crate::specs::Shown::has_place))]
 fn has_place(number: u64) -> bool
     ensures { result ≡ has_place number }
 {
-    if number < 2 { false } else { number <= 10 }
+    matches!(number, 2..=10)
 }
 
 // The number of a refusal, and its place where it tells one.

@@ -1,5 +1,8 @@
 -- A plan in tables of 3,000 rows has at most as many records, and what is printed of it has room. Assumes nothing.
-use mathlib.Core.Path.{◌≡◌, refl, sym, ap, ◌∙◌}
+use Rattle.std.specs.Prelude.{Result, Ok, Err}
+use Rattle.contacts.specs.declared.Mark.{Mark}
+use Rattle.planner.specs.declared.Planned.{Planned}
+use mathlib.Core.Path.{◌≡◌, refl, ap, ◌∙◌}
 use mathlib.Core.Bool.{Bool, true, false}
 use mathlib.Core.List.{List, ◌++◌}
 use Prim.Native.Nat.{ℕ, ◌≤◌, ◌<◌}
@@ -8,8 +11,7 @@ use lib.Dec.{leb}
 use lib.IntN.{ℤ}
 use Rattle.index.specs.Contacts.{plain}
 use Rattle.index.specs.declared.Contact.{Contact}
-use lib.ListN.{length, take}
-use lib.Seq.{length-take-le}
+use lib.ListN.{length}
 use borrow.Author.Tests.{le-leb, lt-leb, leb-true}
 use Rattle.text.specs.Pick.{pick}
 use Rattle.output.specs.Put.{Put}
@@ -18,26 +20,22 @@ use Rattle.refusals.specs.declared.Refusal.{Refusal}
 use Rattle.refusals.specs.declared.Refusal.TheVariants.{ShortTable}
 use Rattle.adif.specs.Records.{records, refused, total}
 use Rattle.adif.specs.Reading.{RowsRead}
-use Rattle.contacts.specs.declared.Listed.{Listed}
-use Rattle.contacts.specs.declared.Listed.TheVariants.{Marked, Refused as RefusedList}
 use Rattle.indexing.specs.Index.{indexed_as}
 use Rattle.summary.specs.Summary.{summary_text}
 use Rattle.plan.specs.Fates.{fates_in}
 use Rattle.plan.specs.Plan.{counts_with}
 use Rattle.planner.specs.Planning
 use Rattle.planner.specs.Planning.{Asked, asked, plan_for, made, planned_read, planned_by, planned_as, fates_by, PlannedTo}
-use Rattle.planner.specs.declared.Planned.{Planned}
-use Rattle.planner.specs.declared.Planned.TheVariants.{Made, Refused}
 use Rattle.show.specs.Shown.{newline, lines_of, plan_text, refused_text, too_long_text}
 use Rattle.show.proofs.LineLaws.{joined_few, lines_few}
 use Rattle.show.proofs.PlanLaws.{summary_few, refusal_few}
 use Rattle.showplan.specs.Printed.{records_in, shown_text, asked_of, asked_in, PlannedIn, printed}
 
 -- ---- a plan has at most as many records as fates were lent
-kept_within : (n m : ℕ) (u : Bool) (p : Planned) → records_in p ≡ n → records_in (pick (leb n m) (pick u p (Refused ShortTable)) (Refused ShortTable)) ≤ m
+kept_within : (n m : ℕ) (u : Bool) (p : Result Planned Refusal) → records_in p ≡ n → records_in (pick (leb n m) (pick u p (Err ShortTable)) (Err ShortTable)) ≤ m
 kept_within n m u p e = by (leb n m) refl u
   where
-    by : (t : Bool) → leb n m ≡ t → (v : Bool) → records_in (pick t (pick v p (Refused ShortTable)) (Refused ShortTable)) ≤ m
+    by : (t : Bool) → leb n m ≡ t → (v : Bool) → records_in (pick t (pick v p (Err ShortTable)) (Err ShortTable)) ≤ m
     by true h true = omega (arith, e, leb-true n m h)
     by true h false = omega arith
     by false h v = omega arith
@@ -48,10 +46,10 @@ read_within a n top (refused why) = omega arith
 read_within a n top (records rs) =
     kept_within (length rs) a.records (leb (length (plan_for a (records rs)).confirmations) a.confirmations) (made (plan_for a (records rs)) (length rs) (total rs) n top) refl
 
-listed_within : (a : Asked) (l : Listed) → records_in (planned_by a l) ≤ a.records
+listed_within : (a : Asked) (l : Result Mark Refusal) → records_in (planned_by a l) ≤ a.records
 unfolding planned_by
-listed_within a (RefusedList why) = omega arith
-listed_within a (Marked n top) = read_within a n top _
+listed_within a (Err why) = omega arith
+listed_within a (Ok m) = read_within a m.contacts m.largest _
 
 records_within : (a : Asked) → records_in (planned_as a) ≤ a.records
 unfolding planned_as
@@ -65,31 +63,24 @@ plan_few rows n confirmations already unmatched h =
     (omega (arith, lines_few rows n))
     (joined_few (summary_text (counts_with (fates_in rows n) confirmations already unmatched)) newline 268 1 (summary_few (counts_with (fates_in rows n) confirmations already unmatched)) (omega arith))
 
-module _ (rows : List (List ℕ)) (plan : Planned) (r : ℕ) (was now : List ℕ) where
-  module _ (n used cards already unmatched contacts top : ℕ) (e : plan ≡ Made n used cards already unmatched contacts top) where
-    pub made_put : Put r was now 0 (plan_text rows n cards already unmatched) → Put r was now 0 (shown_text rows plan)
+module _ (rows : List (List ℕ)) (plan : Result Planned Refusal) (r : ℕ) (was now : List ℕ) where
+  module _ (p : Planned) (e : plan ≡ Ok p) where
+    pub made_put : Put r was now 0 (plan_text rows p.records p.confirmations p.already p.unmatched) → Put r was now 0 (shown_text rows plan)
     unfolding shown_text
-    made_put p = rw e p
+    made_put q = rw e q
 
-    pub made_size : records_in plan ≤ length rows → length rows ≤ 3000 → Put r was now 0 (plan_text rows n cards already unmatched) → r ≤ 196608
-    made_size h l p =
-        let z : n ≤ 3000 = omega (arith, ap records_in e) in
-        omega (arith, put_next r was now 0 (plan_text rows n cards already unmatched) p, plan_few rows n cards already unmatched z)
+    pub made_size : records_in plan ≤ length rows → length rows ≤ 3000 → Put r was now 0 (plan_text rows p.records p.confirmations p.already p.unmatched) → r ≤ 196608
+    made_size h l q =
+        let z : p.records ≤ 3000 = omega (arith, ap records_in e) in
+        omega (arith, put_next r was now 0 (plan_text rows p.records p.confirmations p.already p.unmatched) q, plan_few rows p.records p.confirmations p.already p.unmatched z)
 
-  module _ (why : Refusal) (e : plan ≡ Refused why) where
+  module _ (why : Refusal) (e : plan ≡ Err why) where
     pub refused_put : Put r was now 0 (refused_text why) → Put r was now 0 (shown_text rows plan)
     unfolding shown_text
     refused_put p = rw e p
 
     pub refused_size : Put r was now 0 (refused_text why) → r ≤ 196608
     refused_size p = omega (arith, put_next r was now 0 (refused_text why) p, refusal_few why)
-
--- the records of a plan that was made are those that it counts
-pub made_within : (rows : List (List ℕ)) (plan : Planned) (n used cards already unmatched contacts top : ℕ) → plan ≡ Made n used cards already unmatched contacts top → records_in plan ≤ length rows → n ≤ length rows
-made_within rows plan n used cards already unmatched contacts top e h = omega (arith, ap records_in e)
-
-pub made_few : (rows : List (List ℕ)) (plan : Planned) (n used cards already unmatched contacts top : ℕ) → plan ≡ Made n used cards already unmatched contacts top → records_in plan ≤ length rows → length rows ≤ 3000 → n ≤ 3000
-made_few rows plan n used cards already unmatched contacts top e h l = omega (arith, ap records_in e)
 
 -- ---- of a text
 module _ (text : List ℕ) (r : ℕ) (was now : List ℕ) where
@@ -98,7 +89,7 @@ module _ (text : List ℕ) (r : ℕ) (was now : List ℕ) where
     unfolding printed
     too_long_put p = rw (lt-leb (length text) 49152 h) p
 
-  module _ (h : length text ≤ 49152) (plan : Planned) (fates : List (List ℕ)) (e : plan ≡ planned_as (asked_of text)) (f : fates ≡ fates_by (asked_of text) (planned_as (asked_of text))) where
+  module _ (h : length text ≤ 49152) (plan : Result Planned Refusal) (fates : List (List ℕ)) (e : plan ≡ planned_as (asked_of text)) (f : fates ≡ fates_by (asked_of text) (planned_as (asked_of text))) where
     pub plan_put : Put r was now 0 (shown_text fates plan) → Put r was now 0 (printed text)
     unfolding printed
     plan_put p = rw (le-leb (length text) 49152 h) (rw (f, e) at p)
@@ -106,11 +97,8 @@ module _ (text : List ℕ) (r : ℕ) (was now : List ℕ) where
 pub too_long_size : (r : ℕ) (was now : List ℕ) → Put r was now 0 too_long_text → r ≤ 196608
 too_long_size r was now p = omega (arith, put_next r was now 0 too_long_text p)
 
-pub front_size : (n : ℕ) (out : List ℕ) → n ≤ 196608 → length out ≡ 196608 → n ≡ length (take n out)
-front_size n out h l = sym (length-take-le n out (omega arith))
-
 -- ---- planned
-module _ (a : Asked) (plan : Planned) (table : List ℕ) (index fates cards : List (List ℕ)) (p : PlannedTo a plan table index fates cards) where
+module _ (a : Asked) (plan : Result Planned Refusal) (table : List ℕ) (index fates cards : List (List ℕ)) (p : PlannedTo a plan table index fates cards) where
   pub few_records : a.records ≡ 3000 → records_in plan ≤ 3000
   few_records e = omega (arith, ap records_in p.answer, records_within a)
 
@@ -119,7 +107,7 @@ module _ (a : Asked) (plan : Planned) (table : List ℕ) (index fates cards : Li
       plan_put text r was now h plan fates (p.answer ∙ ap planned_as e) (p.fated ∙ ap (λ (b : Asked). fates_by b (planned_as b)) e)
 
 -- ---- with an index of the function's own
-pub planned_alone : (text list : List ℕ) (window : ℤ) (table : List ℕ) (fates cards : List (List ℕ)) (cs : List Contact) → length (plain cs) ≡ 1 → (r : Planned) (table' : List ℕ) (index fates' cards' : List (List ℕ))
+pub planned_alone : (text list : List ℕ) (window : ℤ) (table : List ℕ) (fates cards : List (List ℕ)) (cs : List Contact) → length (plain cs) ≡ 1 → (r : Result Planned Refusal) (table' : List ℕ) (index fates' cards' : List (List ℕ))
     → PlannedTo (asked text list window false table (plain cs) fates cards) r table' index fates' cards' → PlannedIn text list window table fates cards r table' fates' cards'
 planned_alone text list window table fates cards cs e r table' index fates' cards' p =
     let a : asked text list window false table (plain cs) fates cards ≡ asked_in text list window table fates cards = ap (λ (n : ℕ). Planning.asked_of text list window false (length table) n (length fates) (length cards)) e in

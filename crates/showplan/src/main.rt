@@ -8,6 +8,7 @@ ghost use Rattle.showplan.specs.Printed.{records_in, shown_text, PlannedIn, prin
 
 use index::Contact;
 use planner::Planned;
+use refusals::Refusal;
 use std::io;
 use std::io::{Read, Write};
 
@@ -15,29 +16,21 @@ use std::io::{Read, Write};
 const LONGEST: usize = 49_152;
 
 // The plan line by line, or why there is none.
-fn show_planned(plan: Planned, fates: &[[u32; 28]], out: &mut [u8]) -> usize
+fn show_planned(plan: Result<Planned, Refusal>, fates: &[[u32; 28]], out: &mut [u8]) -> usize
     requires { (records_in plan ≤ length fates.now) × (length fates.now ≤ 3000) × (196608 ≤ length out.old) }
     ensures put { Put result out.old out.new 0 (shown_text fates.now plan) }
     ensures upper_bound { result ≤ 196608 }
 {
     match plan {
-        Planned::Made {
-            records,
-            rows: _,
-            confirmations,
-            already,
-            unmatched,
-            contacts: _,
-            largest: _,
-        } => show::write_plan(
+        Ok(p) => show::write_plan(
             fates,
-            records,
-            confirmations as u64,
-            already,
-            unmatched,
+            p.records,
+            p.confirmations as u64,
+            p.already,
+            p.unmatched,
             out,
         ),
-        Planned::Refused(why) => show::write_refusal(why, out),
+        Err(why) => show::write_refusal(why, out),
     }
 }
 
@@ -55,7 +48,7 @@ fn planned_in(
     table: &mut [u32],
     fates: &mut [[u32; 28]],
     cards: &mut [[u32; 5]],
-) -> Planned
+) -> Result<Planned, Refusal>
     ensures { PlannedIn text.now list.now window table.old fates.old cards.old result table.new fates.new cards.new }
 {
     let mut index = [no_contact(); 1];

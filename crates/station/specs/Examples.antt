@@ -1,5 +1,5 @@
 -- Worked examples.
-use Rattle.std.specs.Prelude.{◌≡◌, refl, [], ◌∷◌}
+use Rattle.std.specs.Prelude.{◌≡◌, refl, [], ◌∷◌, Ok, Err}
 use Rattle.text.specs.Walk.{lead}
 use Rattle.text.specs.Utf8.{utf8, valid_up_to, char_len, long_char, second3, second4}
 use Rattle.text.specs.Space.{space1, space2, space3, space80, space_len, space_back, width, trim_start, trim_end, trimmed, blank}
@@ -7,7 +7,6 @@ use Rattle.letters.specs.Capitals.{raised}
 use Rattle.decimal.specs.Digits.{digits, decimal}
 use Rattle.refusals.specs.Written.{fitted}
 use Rattle.refusals.specs.declared.Refusal.TheVariants.{BadRow, ShortOutput}
-use Rattle.refusals.specs.declared.Written.TheVariants.{Bytes, Unwritten}
 use Rattle.fields.specs.Written.{field_text}
 use Rattle.headers.specs.Answer.{all_utf8}
 use Rattle.station.specs.Station.{station_text, all7}
@@ -20,15 +19,15 @@ unfolding lead space1 space2 space3 space80 space_len space_back width trim_star
 station = refl
 
 -- it takes 52 bytes
-fits : station_answer (32 ∷ 65 ∷ 66 ∷ 32 ∷ []) [] [] (120 ∷ []) (32 ∷ []) [] [] 52 ≡ Bytes 52
+fits : station_answer (32 ∷ 65 ∷ 66 ∷ 32 ∷ []) [] [] (120 ∷ []) (32 ∷ []) [] [] 52 ≡ Ok 52
 unfolding lead char_len valid_up_to utf8 all_utf8 all7 short all_short short7 space1 space2 space3 space80 space_len space_back width trim_start trim_end trimmed blank raised digits decimal field_text station_text fitted station_by station_answer
 fits = refl
 
-too_little_room : station_answer (32 ∷ 65 ∷ 66 ∷ 32 ∷ []) [] [] (120 ∷ []) (32 ∷ []) [] [] 51 ≡ Unwritten ShortOutput
+too_little_room : station_answer (32 ∷ 65 ∷ 66 ∷ 32 ∷ []) [] [] (120 ∷ []) (32 ∷ []) [] [] 51 ≡ Err ShortOutput
 unfolding lead char_len valid_up_to utf8 all_utf8 all7 short all_short short7 space1 space2 space3 space80 space_len space_back width trim_start trim_end trimmed blank raised digits decimal field_text station_text fitted station_by station_answer
 too_little_room = refl
 
 -- an ITU zone that is no UTF-8
-bad_zone : station_answer (65 ∷ []) [] [] [] [] [] (255 ∷ []) 0 ≡ Unwritten BadRow
+bad_zone : station_answer (65 ∷ []) [] [] [] [] [] (255 ∷ []) 0 ≡ Err BadRow
 unfolding lead char_len long_char second3 second4 valid_up_to utf8 all_utf8 all7 station_by station_answer
 bad_zone = refl

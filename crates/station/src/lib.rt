@@ -8,7 +8,19 @@ ghost use Rattle.headers.specs.Answer.{capped, capped_after};
 ghost use Rattle.station.specs.Station.{my_county, my_cq_zone, my_gridsquare, my_itu_zone, my_name, my_state, operator, station_callsign, station_text, filled, all7};
 ghost use Rattle.station.specs.Answer.{short, all_short, short7, station_answer};
 
-use refusals::{Refusal, Written};
+use refusals::Refusal;
+
+// The texts of a station; an absent one is empty.
+#[derive(Clone, Copy)]
+struct Station<'a> {
+    pub call: &'a [u8],
+    pub grid: &'a [u8],
+    pub name: &'a [u8],
+    pub state: &'a [u8],
+    pub county: &'a [u8],
+    pub cq: &'a [u8],
+    pub itu: &'a [u8],
+}
 
 // The field, unless its text is blank.
 fn put_given(out: &mut [u8], at: usize, name: &[u8], value: &[u8]) -> usize
@@ -58,22 +70,13 @@ fn put_call(out: &mut [u8], at: usize, call: &[u8]) -> usize
     put_given(out, a, b"STATION_CALLSIGN", call)
 }
 
-fn put_station(
-    out: &mut [u8],
-    call: &[u8],
-    grid: &[u8],
-    name: &[u8],
-    state: &[u8],
-    county: &[u8],
-    cq: &[u8],
-    itu: &[u8],
-) -> usize
-    requires { Room out.old 0 (station_text call.now grid.now name.now state.now county.now cq.now itu.now) }
-    ensures { Put result out.old out.new 0 (station_text call.now grid.now name.now state.now county.now cq.now itu.now) }
+fn put_station(out: &mut [u8], s: Station) -> usize
+    requires { Room out.old 0 (station_text s.call.now s.grid.now s.name.now s.state.now s.county.now s.cq.now s.itu.now) }
+    ensures { Put result out.old out.new 0 (station_text s.entry.call.now s.entry.grid.now s.entry.name.now s.entry.state.now s.entry.county.now s.entry.cq.now s.entry.itu.now) }
 {
-    let a = put_place(out, county, cq, grid);
-    let b = put_region(out, a, itu, name, state);
-    put_call(out, b, call)
+    let a = put_place(out, s.county, s.cq, s.grid);
+    let b = put_region(out, a, s.itu, s.name, s.state);
+    put_call(out, b, s.call)
 }
 
 fn place_size(county: &[u8], cq: &[u8], grid: &[u8]) -> usize
@@ -104,70 +107,43 @@ fn call_size(size: usize, call: &[u8]) -> usize
 }
 
 // The size of a station's fields.
-fn station_size(
-    call: &[u8],
-    grid: &[u8],
-    name: &[u8],
-    state: &[u8],
-    county: &[u8],
-    cq: &[u8],
-    itu: &[u8],
-) -> usize
-    ensures { result ≡ capped (length (station_text call.now grid.now name.now state.now county.now cq.now itu.now)) }
+fn station_size(s: Station) -> usize
+    ensures { result ≡ capped (length (station_text s.entry.call.now s.entry.grid.now s.entry.name.now s.entry.state.now s.entry.county.now s.entry.cq.now s.entry.itu.now)) }
 {
-    let a = place_size(county, cq, grid);
-    let b = region_size(a, itu, name, state);
-    call_size(b, call)
+    let a = place_size(s.county, s.cq, s.grid);
+    let b = region_size(a, s.itu, s.name, s.state);
+    call_size(b, s.call)
 }
 
-fn are_all_utf8(
-    call: &[u8],
-    grid: &[u8],
-    name: &[u8],
-    state: &[u8],
-    county: &[u8],
-    cq: &[u8],
-    itu: &[u8],
-) -> bool
-    ensures { result ≡ all7 call.now grid.now name.now state.now county.now cq.now itu.now }
+#[tactic(auto, unfolding(crate::specs::Station::all7))]
+fn are_all_utf8(s: Station) -> bool
+    ensures { result ≡ all7 s.entry.call.now s.entry.grid.now s.entry.name.now s.entry.state.now s.entry.county.now s.entry.cq.now s.entry.itu.now }
 {
-    text::all(
-        headers::are_utf8(call, grid, name),
-        text::all(
-            headers::are_utf8(state, county, cq),
-            text::utf8::is_utf8(itu),
-        ),
-    )
+    headers::are_utf8(s.call, s.grid, s.name)
+        && headers::are_utf8(s.state, s.county, s.cq)
+        && text::utf8::is_utf8(s.itu)
 }
 
+#[tactic(auto, unfolding(crate::specs::Answer::short))]
 fn is_short(s: &[u8]) -> bool
     ensures { result ≡ short s.now }
 {
     s.len() <= refusals::LONGEST
 }
 
+#[tactic(auto, unfolding(crate::specs::Answer::all_short))]
 fn are_short(a: &[u8], b: &[u8], c: &[u8]) -> bool
     ensures { result ≡ all_short a.now b.now c.now }
 {
-    text::all(is_short(a), text::all(is_short(b), is_short(c)))
+    is_short(a) && is_short(b) && is_short(c)
 }
 
 // The texts themselves, not what is written of them: a blank one is trimmed away, and is measured nowhere else.
-fn are_all_short(
-    call: &[u8],
-    grid: &[u8],
-    name: &[u8],
-    state: &[u8],
-    county: &[u8],
-    cq: &[u8],
-    itu: &[u8],
-) -> bool
-    ensures { result ≡ short7 call.now grid.now name.now state.now county.now cq.now itu.now }
+#[tactic(auto, unfolding(crate::specs::Answer::short7))]
+fn are_all_short(s: Station) -> bool
+    ensures { result ≡ short7 s.entry.call.now s.entry.grid.now s.entry.name.now s.entry.state.now s.entry.county.now s.entry.cq.now s.entry.itu.now }
 {
-    text::all(
-        are_short(call, grid, name),
-        text::all(are_short(state, county, cq), is_short(itu)),
-    )
+    are_short(s.call, s.grid, s.name) && are_short(s.state, s.county, s.cq) && is_short(s.itu)
 }
 
 // As the original's `Station::my_adif_fields`, in field form; an absent text is an empty one.
@@ -180,22 +156,25 @@ pub fn write_station(
     cq: &[u8],
     itu: &[u8],
     out: &mut [u8],
-) -> Written
+) -> Result<usize, Refusal>
     ensures value { result ≡ station_answer call.now grid.now name.now state.now county.now cq.now itu.now (length out.old) }
     ensures out_after { out.new ≡ output_by result out.old (station_text call.now grid.now name.now state.now county.now cq.now itu.now) }
 {
-    if !are_all_utf8(call, grid, name, state, county, cq, itu) {
-        return Written::Unwritten(Refusal::BadRow);
+    let station = Station {
+        call,
+        grid,
+        name,
+        state,
+        county,
+        cq,
+        itu,
+    };
+    if !are_all_utf8(station) {
+        return Err(Refusal::BadRow);
     }
-    if !are_all_short(call, grid, name, state, county, cq, itu) {
-        return Written::Unwritten(Refusal::TooLong);
+    if !are_all_short(station) {
+        return Err(Refusal::TooLong);
     }
-    let size = station_size(call, grid, name, state, county, cq, itu);
-    let fits = refusals::fit(Written::Bytes(size), out.len());
-    match fits {
-        Written::Unwritten(why) => Written::Unwritten(why),
-        Written::Bytes(_) => {
-            Written::Bytes(put_station(out, call, grid, name, state, county, cq, itu))
-        }
-    }
+    refusals::fit(Ok(station_size(station)), out.len())?;
+    Ok(put_station(out, station))
 }

@@ -1,4 +1,5 @@
 -- The line in the parts in which it is put, and the answer. Assumes nothing.
+use Rattle.std.specs.Prelude.{Ok, Err}
 use mathlib.Core.Path.{◌≡◌, refl}
 use mathlib.Core.List.{List, [], ◌++◌}
 use Prim.Native.Nat.{ℕ, ◌≤◌, ◌<◌}
@@ -13,19 +14,10 @@ use Rattle.output.specs.Put.{Put, Room}
 use Rattle.output.proofs.PutLaws.{put_none, put_then, room_first, room_next, put_next}
 use Rattle.refusals.specs.declared.Refusal.TheVariants.{ShortOutput}
 use Rattle.summary.specs.declared.Counts.{Counts}
-use Rattle.summary.specs.declared.Line.TheVariants.{Bytes, Refused}
 use Rattle.summary.specs.Summary.{counted, dot, further, part, found, confirmed, left_out, summary_text, answer_to, output_after}
 
 -- ---- a number and what it counts
 module _ (n : ℕ) (one many : List ℕ) where
-  pub counted_one : n ≡ 1 → counted n one many ≡ decimal n ++ one
-  unfolding counted
-  counted_one e = rw (eq-eqb n 1 e) refl
-
-  pub counted_many : (n ≡ 1 → ⊥) → counted n one many ≡ decimal n ++ many
-  unfolding counted
-  counted_many e = rw (ne_eqb n 1 e) refl
-
   pub part_none : n ≡ 0 → part n one many ≡ []
   unfolding part
   part_none e = rw (eq-eqb n 0 e) refl
@@ -39,20 +31,14 @@ module _ (n : ℕ) (one many : List ℕ) where
     unfolding counted
     counted_first h = room_first was at (decimal n) (pick (eqb n 1) one many) h
 
-    module _ (q : ℕ) (mid : List ℕ) (p : Put q was mid at (decimal n)) where
-      module _ (e : n ≡ 1) where
-        pub one_room : Room was at (counted n one many) → Room mid q one
-        one_room h = room_next was at (decimal n) one (rw (counted_one e) at h) q mid p
+    module _ (q : ℕ) (mid : List ℕ) (p : Put q was mid at (decimal n)) (name : List ℕ) (e : name ≡ pick (eqb n 1) one many) where
+      pub counted_next : Room was at (counted n one many) → Room mid q name
+      unfolding counted
+      counted_next h = room_next was at (decimal n) name (rw (← e) at h) q mid p
 
-        pub one_put : (r : ℕ) (now : List ℕ) → Put r mid now q one → Put r was now at (counted n one many)
-        one_put r now s = rw (counted_one e) (put_then r q was mid now at (decimal n) one p s)
-
-      module _ (e : n ≡ 1 → ⊥) where
-        pub many_room : Room was at (counted n one many) → Room mid q many
-        many_room h = room_next was at (decimal n) many (rw (counted_many e) at h) q mid p
-
-        pub many_put : (r : ℕ) (now : List ℕ) → Put r mid now q many → Put r was now at (counted n one many)
-        many_put r now s = rw (counted_many e) (put_then r q was mid now at (decimal n) many p s)
+      pub counted_put : (r : ℕ) (now : List ℕ) → Put r mid now q name → Put r was now at (counted n one many)
+      unfolding counted
+      counted_put r now s = rw (← e) (put_then r q was mid now at (decimal n) name p s)
 
     pub further_first : Room was at (further n one many) → Room was at dot
     unfolding further
@@ -178,7 +164,7 @@ module _ (was : List ℕ) (c : Counts) where
 
   module _ (k : ℕ) (e : k ≡ length (summary_text c)) where
     module _ (h : length was < k) where
-      pub short : Refused ShortOutput ≡ answer_to c was
+      pub short : Err ShortOutput ≡ answer_to c was
       unfolding answer_to
       short = rw (← e, lt-ltb (length was) k h) refl
 
@@ -192,7 +178,7 @@ module _ (was : List ℕ) (c : Counts) where
       line_room = omega arith
 
       module _ (r : ℕ) (now : List ℕ) (p : Put r was now 0 (summary_text c)) where
-        pub written : Bytes r ≡ answer_to c was
+        pub written : Ok r ≡ answer_to c was
         unfolding answer_to
         written =
             let z : r ≡ k = omega (arith, put_next r was now 0 (summary_text c) p) in

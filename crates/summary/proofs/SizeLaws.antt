@@ -1,22 +1,26 @@
 -- How long the parts of the line are. Assumes nothing.
 use mathlib.Core.Path.{◌≡◌, refl}
 use mathlib.Core.List.{List, ◌++◌}
-use Prim.Native.Nat.{ℕ, ◌+◌}
+use Prim.Native.Nat.{ℕ, ◌+◌, ◌≤◌}
+use lib.Dec.{eqb}
+use Rattle.text.specs.Pick.{pick}
+use Rattle.text.proofs.BoolLaws.{cases}
 use native.Mathlib.Omega.{arith}
 use lib.ListN.{length, length-append}
 use Rattle.text.specs.Ascii.{ascii}
 use Rattle.decimal.specs.Digits.{decimal}
 use Rattle.summary.specs.declared.Counts.{Counts}
 use Rattle.summary.specs.Summary.{counted, dot, further, part, found, confirmed, left_out, summary_text}
-use Rattle.summary.proofs.LineLaws.{counted_one, counted_many, part_none, part_some}
+use Rattle.summary.proofs.LineLaws.{part_none, part_some}
 
 module _ (n : ℕ) (one many : List ℕ) where
-  module _ (d : ℕ) (p : d ≡ length (decimal n)) where
-    pub one_size : n ≡ 1 → d + length one ≡ length (counted n one many)
-    one_size e = rw (counted_one n one many e) (omega (arith, length-append (decimal n) one))
+  module _ (d : ℕ) (p : d ≡ length (decimal n)) (name : List ℕ) (e : name ≡ pick (eqb n 1) one many) where
+    pub counted_is : d + length name ≡ length (counted n one many)
+    unfolding counted
+    counted_is = rw (← e) (omega (arith, length-append (decimal n) name))
 
-    pub many_size : (n ≡ 1 → ⊥) → d + length many ≡ length (counted n one many)
-    many_size e = rw (counted_many n one many e) (omega (arith, length-append (decimal n) many))
+    pub named_short : length one ≤ 32 → length many ≤ 32 → length name ≤ 32
+    named_short h k = rw e (cases (eqb n 1) (λ u. rw u h) (λ u. rw u k))
 
   further_size : length (further n one many) ≡ length (counted n one many) + 4
   unfolding further

@@ -1,10 +1,9 @@
 -- Worked examples.
-use Rattle.std.specs.Prelude.{◌≡◌, refl, [], ◌∷◌, ◌++◌, ℕ}
+use Rattle.std.specs.Prelude.{◌≡◌, refl, [], ◌∷◌, ◌++◌, ℕ, Err}
 use Rattle.text.specs.Ascii.{ascii}
 use Rattle.decimal.specs.Digits.{digits, decimal}
 use Rattle.refusals.specs.declared.Refusal.TheVariants.{ShortOutput}
 use Rattle.summary.specs.declared.Counts.{Counts}
-use Rattle.summary.specs.declared.Line.TheVariants.{Refused}
 use Rattle.summary.specs.Summary.{counted, dot, further, part, found, confirmed, left_out, summary_text, answer_to, output_after}
 
 abbrev of : ℕ → ℕ → ℕ → ℕ → ℕ → ℕ → ℕ → Counts
@@ -36,6 +35,6 @@ unfolding summary_text found confirmed left_out part further counted decimal dig
 two_of_each = refl
 
 -- an empty file takes 26 bytes; with one less the output stays as it is
-no_room : (answer_to (of 0 0 0 0 0 0 0) (7 ∷ 8 ∷ []) ≡ Refused ShortOutput) × (output_after (of 0 0 0 0 0 0 0) (7 ∷ 8 ∷ []) ≡ 7 ∷ 8 ∷ [])
+no_room : (answer_to (of 0 0 0 0 0 0 0) (7 ∷ 8 ∷ []) ≡ Err ShortOutput) × (output_after (of 0 0 0 0 0 0 0) (7 ∷ 8 ∷ []) ≡ 7 ∷ 8 ∷ [])
 unfolding answer_to output_after summary_text found confirmed left_out part further counted decimal digits
 no_room = (refl, refl)

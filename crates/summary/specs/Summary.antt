@@ -1,14 +1,13 @@
 -- The one line that sums a plan up, after `ImportPlan::summary`: how many records there are and how many are to be imported; and then,
 -- each only where it is not zero, what is confirmed, what is skipped and what is left out.
-use Rattle.std.specs.Prelude.{List, [], ◌∷◌, ◌++◌, ℕ, length, eqb, ltb}
+use Rattle.refusals.specs.declared.Refusal.{Refusal}
+use Rattle.std.specs.Prelude.{List, [], ◌∷◌, ◌++◌, ℕ, length, eqb, ltb, Result, Ok, Err}
 use Rattle.std.proofs.lemmas.List.Edits.{sets}
 use Rattle.text.specs.Pick.{pick}
 use Rattle.text.specs.Ascii.{ascii}
 use Rattle.decimal.specs.Digits.{decimal}
 use Rattle.refusals.specs.declared.Refusal.TheVariants.{ShortOutput}
 use Rattle.summary.specs.declared.Counts.{Counts}
-use Rattle.summary.specs.declared.Line.{Line}
-use Rattle.summary.specs.declared.Line.TheVariants.{Bytes, Refused}
 
 -- a number and what it counts, in the singular for 1
 unfoldable pub counted : ℕ → List ℕ → List ℕ → List ℕ
@@ -43,8 +42,8 @@ summary_text c =
     ++ (confirmed c.confirmations c.already_confirmed ++ left_out c.duplicates c.unmatched c.unusable)
 
 -- the answer: the length of the line, or 13 where the output is too short
-unfoldable pub answer_to : Counts → List ℕ → Line
-answer_to c out = pick (ltb (length out) (length (summary_text c))) (Refused ShortOutput) (Bytes (length (summary_text c)))
+unfoldable pub answer_to : Counts → List ℕ → Result ℕ Refusal
+answer_to c out = pick (ltb (length out) (length (summary_text c))) (Err ShortOutput) (Ok (length (summary_text c)))
 
 -- the output then: the line at its front, or as it was
 unfoldable pub output_after : Counts → List ℕ → List ℕ

@@ -1,7 +1,8 @@
 // The one line that sums a plan up. After `ImportPlan::summary` of `import.rs`. It is measured first, and then written or refused.
 #![tactic(auto)]
 
-ghost use Rattle.std.specs.Prelude.{◌≡◌, ◌≤◌, length};
+ghost use Rattle.std.specs.Prelude.{◌≡◌, ◌≤◌, length, eqb};
+ghost use Rattle.text.specs.Pick.{pick};
 ghost use Rattle.output.specs.Put.{Put, Room};
 ghost use Rattle.summary.specs.Summary.{counted, further, part, found, confirmed, left_out, summary_text, answer_to, output_after};
 
@@ -20,10 +21,11 @@ pub struct Counts {
     pub unusable: u64,
 }
 
-#[derive(Clone, Copy)]
-pub enum Line {
-    Bytes(usize),
-    Refused(Refusal),
+// What a number counts: in the singular for 1.
+fn named<'a>(n: u64, one: &'a [u8], many: &'a [u8]) -> &'a [u8]
+    ensures { result.now ≡ pick (eqb n 1) one.now many.now }
+{
+    if n == 1 { one } else { many }
 }
 
 fn put_counted(out: &mut [u8], at: usize, n: u64, one: &[u8], many: &[u8]) -> usize
@@ -31,10 +33,7 @@ fn put_counted(out: &mut [u8], at: usize, n: u64, one: &[u8], many: &[u8]) -> us
     ensures { Put result out.old out.new at (counted n one.now many.now) }
 {
     let a = output::put_decimal(out, at, n);
-    if n == 1 {
-        return output::put_bytes(out, a, one);
-    }
-    output::put_bytes(out, a, many)
+    output::put_bytes(out, a, named(n, one, many))
 }
 
 fn counted_size(n: u64, one: &[u8], many: &[u8]) -> usize
@@ -42,11 +41,7 @@ fn counted_size(n: u64, one: &[u8], many: &[u8]) -> usize
     ensures value { result ≡ length (counted n one.now many.now) }
     ensures upper_bound { result ≤ 52 }
 {
-    let digits = output::decimal_size(n);
-    if n == 1 {
-        return digits + one.len();
-    }
-    digits + many.len()
+    output::decimal_size(n) + named(n, one, many).len()
 }
 
 fn put_further(out: &mut [u8], at: usize, n: u64, one: &[u8], many: &[u8]) -> usize
@@ -173,12 +168,12 @@ fn summary_size(c: Counts) -> usize
 }
 
 // At the front of the output.
-pub fn write_summary(c: Counts, out: &mut [u8]) -> Line
+pub fn write_summary(c: Counts, out: &mut [u8]) -> Result<usize, Refusal>
     ensures value { result ≡ answer_to c out.old }
     ensures out_after { out.new ≡ output_after c out.old }
 {
     if out.len() < summary_size(c) {
-        return Line::Refused(Refusal::ShortOutput);
+        return Err(Refusal::ShortOutput);
     }
-    Line::Bytes(put_summary(out, c))
+    Ok(put_summary(out, c))
 }

@@ -1,24 +1,18 @@
 -- Laws of the names of entries, and of what a look-up found. Assumes nothing.
+use Rattle.std.specs.Prelude.{Some}
 use mathlib.Core.Path.{◌≡◌, refl, ◌∙◌}
-use mathlib.Core.Bool.{Bool, true, false}
+use mathlib.Core.Bool.{Bool}
 use mathlib.Core.List.{List, [], ◌∷◌}
-use mathlib.Core.Option.{some}
 use Prim.Native.Nat.{ℕ, zero, suc, ◌≤◌, ◌<◌}
 use native.Mathlib.Nat.{not-suc-le-zero, le_of_suc-le-suc}
 use lib.ListN.{length, get_or, take, get_or-eq_default}
 use lib.Seq.{take-take, take-append_seam}
-use borrow.Author.Tests.{eq-eqb, ne_eqb}
-use Rattle.tables.specs.Table.{entry, is_found, Columns, first_from}
-use Rattle.tables.specs.Bands.{band_names}
-use Rattle.tables.specs.Modes.{mode_names}
-use Rattle.tables.specs.Place.{spelled, or_empty, no_name, name_at, name_of}
-use Rattle.tables.specs.declared.Found.{Found}
-use Rattle.tables.specs.declared.Found.TheVariants.{At, Nothing}
+use Rattle.tables.specs.Table.{entry, Columns, first_from}
+use Rattle.tables.specs.Place.{spelled, no_name, name_at}
 use Rattle.tables.specs.declared.Name.{Name}
-use Rattle.tables.specs.declared.Place.{Place}
 
 -- ---- an entry of a list
-pub entry_in_lem : (l : List (List ℕ)) (k : ℕ) → k < length l → entry l k ≡ some (get_or l k [])
+pub entry_in_lem : (l : List (List ℕ)) (k : ℕ) → k < length l → entry l k ≡ Some (get_or l k [])
 entry_in_lem [] k h = absurd (not-suc-le-zero h)
 entry_in_lem (x ∷ xs) zero h = refl
 entry_in_lem (x ∷ xs) (suc k) h = entry_in_lem xs k (le_of_suc-le-suc h)
@@ -47,25 +41,3 @@ entry_here names lens k h = rw (in_range names k h) refl
     in_range [] k h = absurd (not-suc-le-zero h)
     in_range (x ∷ xs) zero h = refl
     in_range (x ∷ xs) (suc k) h = in_range xs k (le_of_suc-le-suc h)
-
--- ---- the name of a place, by its kind
-module _ (p : Place) (r : Name) where
-  pub name_of_band : p.kind ≡ 3 → r ≡ spelled (or_empty (entry band_names p.start)) → r ≡ name_of p
-  unfolding name_of
-  name_of_band e q = q ∙ rw (eq-eqb p.kind 3 e) refl
-
-  pub name_of_mode : (p.kind ≡ 3 → ⊥) → p.kind ≡ 4 → r ≡ spelled (or_empty (entry mode_names p.start)) → r ≡ name_of p
-  unfolding name_of
-  name_of_mode n e q = q ∙ rw (ne_eqb p.kind 3 n, eq-eqb p.kind 4 e) refl
-
-  pub name_of_none : (p.kind ≡ 3 → ⊥) → (p.kind ≡ 4 → ⊥) → r ≡ no_name → r ≡ name_of p
-  unfolding name_of
-  name_of_none n m q = q ∙ rw (ne_eqb p.kind 3 n, ne_eqb p.kind 4 m) refl
-
--- ---- what was found, by its cases
-module _ (f g : Found) (e : f ≡ g) where
-  pub found_at : (k : ℕ) → f ≡ At k → true ≡ is_found g
-  found_at k h = rw (← e, h) refl
-
-  pub found_none : f ≡ Nothing → false ≡ is_found g
-  found_none h = rw (← e, h) refl

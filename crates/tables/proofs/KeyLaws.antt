@@ -1,22 +1,22 @@
 -- Laws of keys: two short texts have one key exactly if they are the same but for case; and what the loops ask. Assumes nothing.
+use Rattle.std.specs.Prelude.{Some, None}
 use mathlib.Core.Path.{◌≡◌, refl, sym, ap, ◌∙◌}
-use mathlib.Core.Bool.{Bool, true, false}
+use mathlib.Core.Bool.{Bool, true, false, cond}
 use mathlib.Core.List.{List, [], ◌∷◌, map, reverse, reverse_aux, reverse-reverse}
 use Prim.Native.Nat.{ℕ, zero, suc, ◌+◌, ◌*◌, ◌-◌, ◌≤◌, ◌<◌}
 use native.Mathlib.Numerals.{add-one}
 use native.Mathlib.Omega.{arith}
 use lib.Dec.{eqb, leb, ltb}
 use lib.ListN.{length, get_or, drop, drop_of_length-le, length-map}
-use lib.Seq.{drop-cons}
 use borrow.Author.Tests.{eq-eqb, ne_eqb, lt-ltb, le-ltb, leb-true, ltb-true}
+use Rattle.std.specs.List.{position_from, position_or_len}
+use Rattle.std.proofs.lemmas.Iterator.Adapters.{position_from-zero}
 use Rattle.text.specs.Pick.{pick, both, within}
 use Rattle.text.proofs.BoolLaws.{both_left, both_right}
 use Rattle.letters.specs.Capitals.{raised, capitals}
 use Rattle.letters.specs.Same.{same, same_raised}
 use Rattle.letters.proofs.SameLaws.{same_refl, same_raised_true}
 use Rattle.tables.specs.Table.{first_from, named, digits, key_of, Bytes, Keyed}
-use Rattle.tables.specs.declared.Found.{Found}
-use Rattle.tables.specs.declared.Found.TheVariants.{At, Nothing}
 use Rattle.tables.proofs.Tested.{all}
 
 -- ---- the number that a list of digits is, the last first
@@ -136,39 +136,24 @@ keys_named x k ns t p = ap (λ (n : ℕ). first_from (eqb n) 0 (map key_of ns)) 
 abbrev pub limit : ℕ → ℕ
 limit i = get_or (2 ∷ 512 ∷ 131072 ∷ 33554432 ∷ 8589934592 ∷ 2199023255552 ∷ 562949953421312 ∷ 144115188075855872 ∷ []) i 0
 
-pub limit_next : (i : ℕ) → i < 7 → (limit (i + 1) ≡ limit i * 256) × (limit (i + 1) ≤ 144115188075855872)
-limit_next i h = rw add-one (by i h)
-  where
-    by : (i : ℕ) → i < 7 → (limit (suc i) ≡ limit i * 256) × (limit (suc i) ≤ 144115188075855872)
-    by zero h = (refl, omega arith)
-    by (suc zero) h = (refl, omega arith)
-    by (suc (suc zero)) h = (refl, omega arith)
-    by (suc (suc (suc zero))) h = (refl, omega arith)
-    by (suc (suc (suc (suc zero)))) h = (refl, omega arith)
-    by (suc (suc (suc (suc (suc zero))))) h = (refl, omega arith)
-    by (suc (suc (suc (suc (suc (suc zero)))))) h = (refl, omega arith)
-    by (suc (suc (suc (suc (suc (suc (suc i))))))) h = absurd (omega arith)
-
 module _ (s : List ℕ) (k i : ℕ) where
   pub key_long : 7 < length s → 0 ≡ key_of s
   unfolding key_of
   key_long h = rw (lt-ltb 7 (length s) h) refl
 
-  pub key_on : (r w b : ℕ) → i < length s → b ≡ raised (get_or s i 0) → w ≡ b → digits k (drop i s) ≡ r → digits (k * 256 + w) (drop (i + 1) s) ≡ r
-  key_on r w b h e f q = rw (add-one, f, e) (rw (drop-cons s i 0 h) at q)
-
   pub key_end : length s ≤ 7 → length s ≤ i → digits k (drop i s) ≡ digits 1 s → k ≡ key_of s
   unfolding key_of
   key_end l h q = rw (le-ltb 7 (length s) l) (rw (drop_of_length-le s h) at q)
 
--- ---- the loop over keys
-module _ (ks : List ℕ) (k i : ℕ) (r : Found) (q : first_from (eqb k) i (drop i ks) ≡ r) where
-  module _ (h : i < length ks) where
-    pub key_here : k ≡ get_or ks i 0 → At i ≡ r
-    key_here e = simp (eq-eqb k (get_or ks i 0) e) at (rw (drop-cons ks i 0 h) at q)
+-- ---- the first of a list, as `position` finds it
+module _ {A : Type 0} (test : A → Bool) where
+  first_by : (i : ℕ) (xs : List A) → position_from test i xs ≡ first_from test i xs
+  first_by i [] = refl
+  first_by i (x ∷ xs) = rw (add-one, first_by (suc i) xs) (by (test x))
+    where
+      by : (t : Bool) → cond t (Some i) (first_from test (suc i) xs) ≡ pick t (Some i) (first_from test (suc i) xs)
+      by true = refl
+      by false = refl
 
-    pub key_not : (k ≡ get_or ks i 0 → ⊥) → first_from (eqb k) (i + 1) (drop (i + 1) ks) ≡ r
-    key_not n = rw add-one (simp (ne_eqb k (get_or ks i 0) n) at (rw (drop-cons ks i 0 h) at q))
-
-  pub key_nowhere : length ks ≤ i → Nothing ≡ r
-  key_nowhere h = rw (drop_of_length-le ks h) at q
+  pub first_at : (xs : List A) → cond (ltb (position_or_len test xs) (length xs)) (Some (position_or_len test xs)) None ≡ first_from test 0 xs
+  first_at xs = position_from-zero test xs ∙ first_by 0 xs

@@ -1,12 +1,12 @@
 -- Laws of places: what the functions that make and read them ask. Assumes nothing.
-use mathlib.Core.Path.{◌≡◌, refl, sym, ap, ◌∙◌}
+use mathlib.Core.Path.{◌≡◌, refl, ◌∙◌}
 use mathlib.Core.Bool.{Bool, true, false}
 use mathlib.Core.List.{List, []}
-use Prim.Native.Nat.{ℕ, ◌+◌, ◌-◌, ◌≤◌, ◌<◌}
+use Prim.Native.Nat.{ℕ, ◌+◌, ◌-◌, ◌≤◌}
 use native.Mathlib.Omega.{arith}
 use lib.Dec.{T, leb}
-use lib.ListN.{length, take, drop, length-take, length-drop, drop_of_length-le}
-use lib.Seq.{take_all, length-take-le, take-nil}
+use lib.ListN.{length, take, drop, length-take, length-drop}
+use lib.Seq.{length-take-le}
 use borrow.Author.Tests.{leb-true}
 use Rattle.text.specs.Pick.{pick}
 use Rattle.text.specs.Space.{trim_start, trim_end, trimmed}
@@ -17,14 +17,6 @@ use Rattle.tables.specs.Place.{tidy}
 use Rattle.tables.specs.declared.Place.{Place}
 use Rattle.tables.proofs.TableLaws.{all_le, all_le_lem}
 
--- a choice by a test t whose answer x is known
-module _ {A : Type 0} (t x : Bool) (a b : A) (e : x ≡ t) where
-  pub picked : x ≡ true → a ≡ pick t a b
-  picked h = rw (← e, h) refl
-
-  pub passed : x ≡ false → b ≡ pick t a b
-  passed h = rw (← e, h) refl
-
 -- two columns of a constant table
 pub columns : (ns : List (List ℕ)) (ls : List ℕ) → length ns ≡ length ls → T (leb (length ns) 255) → T (all_le 12 ls) → Columns ns ls
 columns ns ls e f s = record { alike = e; few = few (leb (length ns) 255) refl f; short = all_le_lem 12 ls s }
@@ -34,14 +26,6 @@ columns ns ls e f s = record { alike = e; few = few (leb (length ns) 255) refl f
     few false q t = absurd t
 
 module _ (text : List ℕ) (p : Place) where
-  pub part_in : in_text p ≡ true → part text p ≡ take p.len (drop p.start text)
-  unfolding part
-  part_in h = rw h refl
-
-  pub part_out : in_text p ≡ false → part text p ≡ []
-  unfolding part
-  part_out h = rw h refl
-
   -- a part that has bytes ends within the text
   pub part_length : length (part text p) ≤ length text - p.start
   unfolding part
@@ -51,24 +35,7 @@ module _ (text : List ℕ) (p : Place) where
       by true = omega (arith, length-take p.len (drop p.start text), length-drop p.start text)
       by false = omega arith
 
--- ---- at most n bytes of a text from a on
-module _ (text : List ℕ) (a n : ℕ) where
-  pub bytes_past : length text < a → [] ≡ take n (drop a text)
-  bytes_past h = rw (drop_of_length-le text {i = a} (omega arith)) (sym (take-nil n))
-
-  pub bytes_few : length (take (length text - a) (drop a text)) < n → take (length text - a) (drop a text) ≡ take n (drop a text)
-  bytes_few h = rw rest (sym (take_all n (drop a text) (omega (arith, ap length (rest text a)))))
-
-  pub bytes_all : take n (take (length text - a) (drop a text)) ≡ take n (drop a text)
-  bytes_all = rw rest refl
-
 module _ (text : List ℕ) (p : Place) (b : Bool) (e : b ≡ in_text p) where
-  pub is_part_lem : (s : List ℕ) → b ≡ true → s ≡ take p.len (drop p.start text) → s ≡ part text p
-  is_part_lem s h q = q ∙ sym (part_in text p (sym e ∙ h))
-
-  pub no_part : b ≡ false → [] ≡ part text p
-  no_part h = sym (part_out text p (sym e ∙ h))
-
   pub tidy_other : b ≡ false → p ≡ tidy text p
   unfolding tidy
   tidy_other h = rw (← e, h) refl

@@ -1,11 +1,10 @@
 -- The bands: bounds in Hz, both ends inside, and the name.
-use Rattle.std.specs.Prelude.{ℕ, Bool, true, List, [], ◌∷◌, map, ltb, length}
+use Rattle.std.specs.Prelude.{ℕ, Bool, List, [], ◌∷◌, map, length, Option}
 use Prim.Native.String.{String}
 use Rattle.text.specs.Ascii.{ascii}
-use Rattle.text.specs.Pick.{both, within}
+use Rattle.text.specs.Pick.{within}
 use Rattle.text.specs.Space.{trimmed}
 use Rattle.tables.specs.Table.{first_from, named}
-use Rattle.tables.specs.declared.Found.{Found}
 use Rattle.tables.specs.declared.Span.{Span}
 
 pub record Band : Type 0 where
@@ -52,22 +51,12 @@ bounded [] hs = []
 bounded (l ∷ ls) [] = []
 bounded (l ∷ ls) (h ∷ hs) = record { low = l; high = h; name = [] } ∷ bounded ls hs
 
--- each upper bound is below every later lower bound
-abbrev pub below : ℕ → List ℕ → Bool
-below h [] = true
-below h (l ∷ ls) = both (ltb h l) (below h ls)
-
-abbrev pub apart : List ℕ → List ℕ → Bool
-apart [] ls = true
-apart (h ∷ hs) [] = true
-apart (h ∷ hs) (l ∷ ls) = both (below h ls) (apart hs ls)
-
 -- the band of a frequency
-unfoldable pub band_for : ℕ → Found
+unfoldable pub band_for : ℕ → Option ℕ
 band_for hz = first_from (holds hz) 0 bands
 
 -- the band that a text names, white space at its ends and the case of its letters aside
-unfoldable pub band_named : List ℕ → Found
+unfoldable pub band_named : List ℕ → Option ℕ
 band_named text = named (trimmed text) band_names
 
 -- the entries of every band

@@ -1,15 +1,12 @@
 -- A place: where the bytes of a text result stand. They are a part of the text, as it stands or in capitals, or an entry of
 -- the table of bands or of modes; or there are none, and the result is absent.
-use Rattle.std.specs.Prelude.{ℕ, ◌+◌, Bool, List, [], ◌∷◌, ◌++◌, eqb, length, get_or, take, drop}
-use Rattle.std.proofs.Math.Option.{Option, none, some}
+use Rattle.std.specs.Prelude.{ℕ, ◌+◌, Bool, List, [], ◌∷◌, ◌++◌, eqb, length, get_or, take, drop, Some, None, Option}
 use Rattle.text.specs.Pick.{pick, both, either}
 use Rattle.text.specs.Space.{trim_start, trimmed}
 use Rattle.letters.specs.Capitals.{capitals}
 use Rattle.tables.specs.Table.{entry}
 use Rattle.tables.specs.Bands.{band_names}
 use Rattle.tables.specs.Modes.{mode_names}
-use Rattle.tables.specs.declared.Found.{Found}
-use Rattle.tables.specs.declared.Found.TheVariants.{At, Nothing}
 use Rattle.tables.specs.declared.Name.{Name}
 use Rattle.tables.specs.declared.Place.{Place}
 
@@ -47,24 +44,24 @@ part text p = pick (in_text p) (take p.len (drop p.start text)) []
 -- what the place stands for. An entry that its table does not have, and a kind that is none of the five, stand for nothing
 unfoldable pub value : List ℕ → Place → Option (List ℕ)
 value text p =
-    pick (eqb p.kind 1) (some (part text p))
-    (pick (eqb p.kind 2) (some (capitals (part text p)))
+    pick (eqb p.kind 1) (Some (part text p))
+    (pick (eqb p.kind 2) (Some (capitals (part text p)))
     (pick (eqb p.kind 3) (entry band_names p.start)
     (pick (eqb p.kind 4) (entry mode_names p.start)
-    none)))
+    None)))
 
 abbrev pub or_empty : Option (List ℕ) → List ℕ
-or_empty none = []
-or_empty (some x) = x
+or_empty None = []
+or_empty (Some x) = x
 
 -- the bytes of a place, where no difference is made between absent and empty
 abbrev pub bytes : List ℕ → Place → List ℕ
 bytes text p = or_empty (value text p)
 
 -- the entry of a band that was looked for
-abbrev pub band_place : Found → Place
-band_place (At k) = band_entry k
-band_place Nothing = absent
+abbrev pub band_place : Option ℕ → Place
+band_place (Some k) = band_entry k
+band_place None = absent
 
 -- a name with its length, in twelve bytes that are 0 after it
 abbrev pub spelled : List ℕ → Name

@@ -1,25 +1,22 @@
 -- A look-up in a table: the number of the first entry that a test picks.
-use Rattle.std.specs.Prelude.{◌≡◌, ℕ, zero, suc, ◌+◌, ◌*◌, ◌≤◌, ◌<◌, Bool, true, false, List, [], ◌∷◌, length, get_or, take, ltb}
-use Rattle.std.proofs.Math.Option.{Option, none, some}
+use Rattle.std.specs.Prelude.{◌≡◌, ℕ, zero, suc, ◌+◌, ◌*◌, ◌≤◌, ◌<◌, Bool, true, false, List, [], ◌∷◌, length, get_or, take, ltb, Some, None, Option}
 use Rattle.text.specs.Pick.{pick}
 use Rattle.letters.specs.Capitals.{raised}
 use Rattle.letters.specs.Same.{same_raised}
-use Rattle.tables.specs.declared.Found.{Found}
-use Rattle.tables.specs.declared.Found.TheVariants.{At, Nothing}
 
 -- the first entry that the test picks, where the entries are counted from k
-abbrev pub first_from : {A : Type 0} → (A → Bool) → ℕ → List A → Found
-first_from test k [] = Nothing
-first_from test k (x ∷ xs) = pick (test x) (At k) (first_from test (suc k) xs)
+abbrev pub first_from : {A : Type 0} → (A → Bool) → ℕ → List A → Option ℕ
+first_from test k [] = None
+first_from test k (x ∷ xs) = pick (test x) (Some k) (first_from test (suc k) xs)
 
 -- the first entry whose name is the text but for the case of letters
-unfoldable pub named : List ℕ → List (List ℕ) → Found
+unfoldable pub named : List ℕ → List (List ℕ) → Option ℕ
 named text names = first_from (same_raised text) 0 names
 
 -- the entry k of a table, if it has one
 abbrev pub entry : {A : Type 0} → List A → ℕ → Option A
-entry [] k = none
-entry (x ∷ xs) zero = some x
+entry [] k = None
+entry (x ∷ xs) zero = Some x
 entry (x ∷ xs) (suc k) = entry xs k
 
 -- a column of names in a fixed width, and beside it the column of their lengths
@@ -34,9 +31,9 @@ pub record Columns (names : List (List ℕ)) (lens : List ℕ) : Type 0 where
   pub few : length names ≤ 255
   pub short : (k : ℕ) → get_or lens k 0 ≤ 12
 
-abbrev pub is_found : Found → Bool
-is_found (At k) = true
-is_found Nothing = false
+abbrev pub is_found : Option ℕ → Bool
+is_found (Some k) = true
+is_found None = false
 
 -- ---- a short text as a number: its bytes in capitals are the digits in base 256, after a leading 1
 abbrev pub digits : ℕ → List ℕ → ℕ

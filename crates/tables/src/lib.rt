@@ -46,13 +46,6 @@ pub enum ModeClass {
     Image,
 }
 
-// The number of an entry.
-#[derive(Clone, Copy)]
-pub enum Found {
-    At(u32),
-    Nothing,
-}
-
 // The text is the first n bytes of the name, but for the case of letters.
 fn is_cut(text: &[u8], name: [u8; 12], n: usize) -> bool
     requires { n ≤ 12 }
@@ -63,18 +56,16 @@ fn is_cut(text: &[u8], name: [u8; 12], n: usize) -> bool
 
 // The first entry whose name, the first lens[k] bytes of names[k], is the text but for the case of letters. The tables are
 // lent, since an index into a constant lays the whole table on the stack.
-pub fn named_in(names: &[[u8; 12]], lens: &[usize], text: &[u8]) -> Found
+pub fn named_in(names: &[[u8; 12]], lens: &[usize], text: &[u8]) -> Option<u32>
     requires { Columns names.now lens.now }
     ensures { result ≡ named text.now (cut names.now lens.now) }
 {
-    let mut i = 0;
-    while i < names.len() {
-        if is_cut(text, names[i], lens[i]) {
-            return Found::At(i as u32);
+    for (i, &name) in names.iter().enumerate() {
+        if is_cut(text, name, lens[i]) {
+            return Some(i as u32);
         }
-        i += 1;
     }
-    Found::Nothing
+    None
 }
 
 fn no_name() -> Name
@@ -91,62 +82,42 @@ pub fn name_in(names: &[[u8; 12]], lens: &[usize], k: usize) -> Name
     ensures { result ≡ name_at names.now lens.now k }
 {
     if k < names.len() {
-        return Name {
+        Name {
             bytes: names[k],
             len: lens[k],
-        };
+        }
+    } else {
+        no_name()
     }
-    no_name()
 }
 
 // The number at k, or 0 past the end.
 pub fn number_at(numbers: &[u32], k: u32) -> u32
     ensures { result ≡ get_or numbers.now k 0 }
 {
-    let i = k as usize;
-    if i < numbers.len() { numbers[i] } else { 0 }
+    numbers.get(k as usize).copied().unwrap_or(0)
 }
 
-fn wide(b: u8) -> u64
-    ensures { result ≡ b }
-{
-    b as u64
-}
-
-// A text of up to seven bytes as a number, the case of letters aside; 0 for a longer one.
-fn key(text: &[u8]) -> u64
-    ensures { result ≡ key_of text.now }
+// A text of up to seven bytes as a number, the case of letters aside; 0 for a longer one. With it stands what tells texts apart
+// by their keys.
+pub fn text_key(text: &[u8]) -> u64
+    ensures { Keyed text.now result }
 {
     if 7 < text.len() {
         return 0;
     }
-    let mut k: u64 = 1;
-    let mut i = 0;
-    while i < text.len() {
-        k = k * 256 + wide(letters::raise(text[i]));
-        i += 1;
+    let mut k = 1;
+    for &b in text {
+        k = k * 256 + u64::from(letters::raise(b));
     }
     k
 }
 
-// The same, with what tells texts apart by their keys.
-pub fn text_key(text: &[u8]) -> u64
-    ensures { Keyed text.now result }
-{
-    key(text)
-}
-
 // The first entry with that key: a compare chain, where names of bytes would be laid on the stack.
-pub fn first_key(keys: &[u64], k: u64) -> Found
+pub fn first_key(keys: &[u64], k: u64) -> Option<u32>
     requires { length keys.now ≤ 255 }
     ensures { result ≡ first_from (eqb k) 0 keys.now }
 {
-    let mut i = 0;
-    while i < keys.len() {
-        if k == keys[i] {
-            return Found::At(i as u32);
-        }
-        i += 1;
-    }
-    Found::Nothing
+    let i = keys.iter().position(|&x| k == x)?;
+    Some(i as u32)
 }

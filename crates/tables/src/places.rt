@@ -1,6 +1,6 @@
-// Places made, and read.
+// Places made, and read. The kinds are numbers for the callers in C.
 ghost use Rattle.std.specs.Prelude.{◌≡◌, ◌≤◌, length, take, drop};
-ghost use Rattle.tables.specs.Place.{absent, stands, value_place, in_capitals, band_entry, mode_entry, in_text, part, name_of};
+ghost use Rattle.tables.specs.Place.{place, absent, stands, value_place, in_capitals, band_entry, mode_entry, in_text, part, name_of};
 ghost use Rattle.tables.specs.Place.{tidy, is_absent, is_empty, or_else, spelled, or_empty};
 ghost use Rattle.tables.specs.Table.{entry};
 ghost use Rattle.tables.specs.Bands.{band_names};
@@ -8,54 +8,40 @@ ghost use Rattle.tables.specs.Modes.{mode_names};
 
 use super::{Name, Place, band_names, mode_names, name_in, no_name};
 
+fn place(kind: u32, start: u32, len: u32) -> Place
+    ensures { result ≡ place kind start len }
+{
+    Place { kind, start, len }
+}
+
 pub fn absent() -> Place
     ensures { result ≡ absent }
 {
-    Place {
-        kind: 0,
-        start: 0,
-        len: 0,
-    }
+    place(0, 0, 0)
 }
 
 pub fn stands(start: u32, len: u32) -> Place
     ensures { result ≡ stands start len }
 {
-    Place {
-        kind: 1,
-        start,
-        len,
-    }
+    place(1, start, len)
 }
 
 pub fn in_capitals(start: u32, len: u32) -> Place
     ensures { result ≡ in_capitals start len }
 {
-    Place {
-        kind: 2,
-        start,
-        len,
-    }
+    place(2, start, len)
 }
 
 pub fn band_entry(k: u32) -> Place
     ensures { result ≡ band_entry k }
 {
-    Place {
-        kind: 3,
-        start: k,
-        len: 0,
-    }
+    place(3, k, 0)
 }
 
 pub fn mode_entry(k: u32) -> Place
     ensures { result ≡ mode_entry k }
 {
-    Place {
-        kind: 4,
-        start: k,
-        len: 0,
-    }
+    place(4, k, 0)
 }
 
 // Where the value of a row stands: record, place and length of a name, place and length of a value.
@@ -74,14 +60,14 @@ pub fn is_absent(p: Place) -> bool
 pub fn in_text(p: Place) -> bool
     ensures { result ≡ in_text p }
 {
-    text::any(p.kind == 1, p.kind == 2)
+    p.kind == 1 || p.kind == 2
 }
 
 // Absent, or a part of no bytes.
 pub fn is_empty(p: Place) -> bool
     ensures { result ≡ is_empty p }
 {
-    text::any(is_absent(p), text::all(in_text(p), p.len == 0))
+    is_absent(p) || in_text(p) && p.len == 0
 }
 
 pub fn or_else(p: Place, q: Place) -> Place
@@ -94,26 +80,22 @@ pub fn or_else(p: Place, q: Place) -> Place
 fn bytes_at(text: &[u8], start: usize, len: usize) -> &[u8]
     ensures { result.now ≡ take len (drop start text.now) }
 {
-    if text.len() < start {
-        return &text[..0];
-    }
-    let rest = &text[start..];
-    if rest.len() < len {
-        return rest;
-    }
-    &rest[..len]
+    let rest = &text[start.min(text.len())..];
+    &rest[..len.min(rest.len())]
 }
 
 // The part of the text at which the place is: of no bytes where it is not in the text.
+#[tactic(auto, unfolding(crate::specs::Place::part))]
 pub fn part(text: &[u8], p: Place) -> &[u8]
     ensures { result.now ≡ part text.now p }
 {
     let start = p.start as usize;
     let len = p.len as usize;
     if in_text(p) {
-        return bytes_at(text, start, len);
+        bytes_at(text, start, len)
+    } else {
+        &[]
     }
-    &text[..0]
 }
 
 // The place trimmed, and in capitals.
@@ -146,15 +128,14 @@ fn mode_name(k: usize) -> Name
 }
 
 // The name of an entry.
+#[tactic(auto, unfolding(crate::specs::Place::name_of))]
 pub fn name_of(p: Place) -> Name
     ensures { result ≡ name_of p }
 {
     let k = p.start as usize;
-    if p.kind == 3 {
-        return band_name(k);
+    match p.kind {
+        3 => band_name(k),
+        4 => mode_name(k),
+        _ => no_name(),
     }
-    if p.kind == 4 {
-        return mode_name(k);
-    }
-    no_name()
 }

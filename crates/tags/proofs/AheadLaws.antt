@@ -1,4 +1,5 @@
 -- The first tag from `at` on is ahead of `at`. Assumes nothing.
+use Rattle.std.specs.Prelude.{Option, Some, None}
 use mathlib.Core.Path.{◌≡◌, refl}
 use mathlib.Core.Bool.{Bool, true, false}
 use Prim.Native.Nat.{ℕ, ◌+◌, ◌-◌, ◌≤◌, ◌<◌}
@@ -13,8 +14,6 @@ use Rattle.text.specs.Find.{other}
 use Rattle.text.specs.Space.{trim_start}
 use Rattle.text.specs.Utf8.{cont}
 use Rattle.text.proofs.SpaceLaws.{start_le, end_le}
-use Rattle.decimal.specs.declared.Unsigned.{Unsigned}
-use Rattle.decimal.specs.declared.Unsigned.TheVariants.{Is, Not}
 use Rattle.tags.specs.Tags.{lt, gt, colon_at, name_at, name_length, name_place, name_of, kind_of, length_after, value_of, by_kind, tag_of, closed_at, open_at, tag_at}
 use Rattle.tags.specs.Ahead.{Ahead}
 use Rattle.tags.specs.declared.Kind.{Kind}
@@ -43,10 +42,10 @@ place_in a t = by (eqb (name_length t) 0) refl
     by false e = omega (arith, name_in_lem t)
 
 module _ (s : List ℕ) (at next : ℕ) (p : at < next) (q : next ≤ length s) where
-  value_ahead : (i a k : ℕ) → a + k ≤ length s → (num : Unsigned) → Ahead s at (value_of s i a k next num)
+  value_ahead : (i a k : ℕ) → a + k ≤ length s → (num : Option ℕ) → Ahead s at (value_of s i a k next num)
   unfolding value_of
-  value_ahead i a k m Not = tt
-  value_ahead i a k m (Is n) =
+  value_ahead i a k m None = tt
+  value_ahead i a k m (Some n) =
       pick_elim (Ahead s at) (leb n (length s - next)) _ _
       (λ e. pick_elim (Ahead s at) (cont (get_or s (next + n) 0)) _ _ (λ _. tt) (λ _. omega (arith, leb-true n (length s - next) e)))
       (λ _. tt)

@@ -1,4 +1,8 @@
 -- Laws of `specs/Tags.antt`, by the tests that the code makes. Assumes nothing.
+use Rattle.std.specs.Prelude.{Option, Some, None, Result, Ok, Err}
+use Rattle.tags.specs.declared.Tag.TheVariants.{End, Eof, Eoh, Eor, Field}
+use Rattle.tags.specs.declared.Tag.{Tag}
+use Rattle.refusals.specs.declared.Refusal.{Refusal}
 use mathlib.Core.Path.{◌≡◌, refl, sym, ap, ◌∙◌}
 use mathlib.Core.Bool.{Bool, true, false}
 use Prim.Native.Nat.{ℕ, ◌+◌, ◌-◌, ◌^◌, ◌≤◌, ◌<◌}
@@ -16,14 +20,10 @@ use Rattle.text.specs.Space.{trim_start, trim_end, trimmed}
 use Rattle.text.proofs.SpaceLaws.{rest, trim_part}
 use Rattle.letters.specs.Same.{same_raised}
 use Rattle.decimal.specs.Decimal.{unsigned_of}
-use Rattle.decimal.specs.declared.Unsigned.{Unsigned}
-use Rattle.decimal.specs.declared.Unsigned.TheVariants.{Is, Not}
 use Rattle.refusals.specs.declared.Refusal.TheVariants.{UnterminatedTag, MissingLength, BadLength, TruncatedValue, NonUtf8}
 use Rattle.tags.specs.Tags.{lt, gt, colon, eoh, eor, eof, kind_of, colon_at, name_at, name_length, name_place, name_of, length_after, value_of, by_kind, tag_of, closed_at, open_at, tag_at}
 use Rattle.tags.specs.declared.Kind.{Kind}
 use Rattle.tags.specs.declared.Kind.TheVariants.{EndOfHeader, EndOfRecord, EndOfFile, FieldName}
-use Rattle.tags.specs.declared.Tag.{Tag}
-use Rattle.tags.specs.declared.Tag.TheVariants.{End, Eoh, Eor, Eof, Field, Refused}
 
 -- the kind of a name
 module _ (n : List ℕ) (p : Bool) (e : p ≡ same_raised n eoh) where
@@ -46,29 +46,29 @@ module _ (n : List ℕ) (p : Bool) (e : p ≡ same_raised n eoh) where
       kind_field h = simp (← e, pn, ← f, qn, ← g, h)
 
 -- a length and a value
-pub length_part : (t : List ℕ) (c e : ℕ) (u : List ℕ) (r : Unsigned)
+pub length_part : (t : List ℕ) (c e : ℕ) (u : List ℕ) (r : Option ℕ)
     → e ≡ ends (other colon) t (c + 1) → u ≡ trimmed (take (e - (c + 1)) (drop (c + 1) t)) → r ≡ unsigned_of u → r ≡ length_after t c
 unfolding length_after colon_at ends
 length_part t c e u r p q w =
     let z : e - (c + 1) ≡ 0 + lead (other colon) (drop (c + 1) t) = omega (arith, p) in
     w ∙ ap unsigned_of q ∙ rw z refl
 
-module _ (s : List ℕ) (i a k next : ℕ) (num : Unsigned) where
-  pub value_bad : num ≡ Not → Refused (BadLength i a k) ≡ value_of s i a k next num
+module _ (s : List ℕ) (i a k next : ℕ) (num : Option ℕ) where
+  pub value_bad : num ≡ None → Err (BadLength i a k) ≡ value_of s i a k next num
   unfolding value_of
   value_bad e = rw e
 
-  module _ (n : ℕ) (e : num ≡ Is n) where
-    pub value_cut : length s - next < n → Refused (TruncatedValue i a k n (length s - next)) ≡ value_of s i a k next num
+  module _ (n : ℕ) (e : num ≡ Some n) where
+    pub value_cut : length s - next < n → Err (TruncatedValue i a k n (length s - next)) ≡ value_of s i a k next num
     unfolding value_of
     value_cut h = simp (e, lt-leb n (length s - next) h)
 
     module _ (h : n ≤ length s - next) (b : ℕ) (f : b ≡ get_or s (next + n) 0) (t : Bool) (g : t ≡ within b 0x80 0xBF) where
-      pub value_torn : t ≡ true → Refused (NonUtf8 i a k) ≡ value_of s i a k next num
+      pub value_torn : t ≡ true → Err (NonUtf8 i a k) ≡ value_of s i a k next num
       unfolding value_of
       value_torn y = simp (e, le-leb n (length s - next) h, ← f, ← g, y)
 
-      pub value_whole : t ≡ false → Field i a k next n ≡ value_of s i a k next num
+      pub value_whole : t ≡ false → Ok (Field i a k next n) ≡ value_of s i a k next num
       unfolding value_of
       value_whole y = simp (e, le-leb n (length s - next) h, ← f, ← g, y)
 
@@ -87,15 +87,15 @@ module _ (s : List ℕ) (at : ℕ) (t : List ℕ) (next c i n : ℕ) (k : Kind) 
   unfolding name_of colon_at
   kind_is = rw (← ec, ← trim_part (take c t) i n ei en) (sym ek)
 
-  pub tag_eoh : k ≡ EndOfHeader → Eoh next ≡ tag_of s at t next
+  pub tag_eoh : k ≡ EndOfHeader → Ok (Eoh next) ≡ tag_of s at t next
   unfolding tag_of by_kind
   tag_eoh e = rw (kind_is, e)
 
-  pub tag_eor : k ≡ EndOfRecord → Eor at next ≡ tag_of s at t next
+  pub tag_eor : k ≡ EndOfRecord → Ok (Eor at next) ≡ tag_of s at t next
   unfolding tag_of by_kind
   tag_eor e = rw (kind_is, e)
 
-  pub tag_eof : k ≡ EndOfFile → Eof ≡ tag_of s at t next
+  pub tag_eof : k ≡ EndOfFile → Ok Eof ≡ tag_of s at t next
   unfolding tag_of by_kind
   tag_eof e = rw (kind_is, e)
 
@@ -107,11 +107,11 @@ module _ (s : List ℕ) (at : ℕ) (t : List ℕ) (next c i n : ℕ) (k : Kind) 
   unfolding name_place name_at colon_at
   place_is m em = em ∙ rw (← length_is) (simp (← ec, ← ei))
 
-  pub tag_missing : (m : ℕ) → m ≡ pick (eqb n 0) 0 (at + 1 + i) → k ≡ FieldName → length t ≤ c → Refused (MissingLength at m n) ≡ tag_of s at t next
+  pub tag_missing : (m : ℕ) → m ≡ pick (eqb n 0) 0 (at + 1 + i) → k ≡ FieldName → length t ≤ c → Err (MissingLength at m n) ≡ tag_of s at t next
   unfolding tag_of by_kind colon_at
   tag_missing m em e h = rw (kind_is, e) (simp (← ec, le-ltb c (length t) h) (rw (place_is m em, length_is) refl))
 
-  pub tag_field : (m : ℕ) (num : Unsigned) (r : Tag) → m ≡ pick (eqb n 0) 0 (at + 1 + i) → k ≡ FieldName → c < length t → num ≡ length_after t c
+  pub tag_field : (m : ℕ) (num : Option ℕ) (r : Result Tag Refusal) → m ≡ pick (eqb n 0) 0 (at + 1 + i) → k ≡ FieldName → c < length t → num ≡ length_after t c
       → r ≡ value_of s at m n next num → r ≡ tag_of s at t next
   unfolding tag_of by_kind colon_at
   tag_field m num r em e h f g = rw (kind_is, e) (simp (← ec, lt-ltb c (length t) h, ← f) (g ∙ rw (place_is m em, length_is) refl))
@@ -121,20 +121,20 @@ name_fits s a e c i p q l h =
     omega (arith, length-take c (take (e - a) (drop a s)), length-take (e - a) (drop a s))
 
 -- the first tag
-pub tag_past : (s : List ℕ) (at : ℕ) → length s ≤ at → End ≡ tag_at s at
+pub tag_past : (s : List ℕ) (at : ℕ) → length s ≤ at → Ok End ≡ tag_at s at
 unfolding tag_at open_at ends
 tag_past s at h = simp (le-ltb (at + lead (other lt) (drop at s)) (length s) (omega arith))
 
 module _ (s : List ℕ) (at i : ℕ) (e : i ≡ ends (other lt) s at) where
-  pub tag_none : length s ≤ i → End ≡ tag_at s at
+  pub tag_none : length s ≤ i → Ok End ≡ tag_at s at
   unfolding tag_at open_at
   tag_none h = simp (← e, le-ltb i (length s) h)
 
   module _ (h : i < length s) (n : ℕ) (f : n ≡ ends (other gt) s (i + 1)) where
-    pub tag_open : length s ≤ n → Refused (UnterminatedTag i) ≡ tag_at s at
+    pub tag_open : length s ≤ n → Err (UnterminatedTag i) ≡ tag_at s at
     unfolding tag_at open_at closed_at
     tag_open g = simp (← e, lt-ltb i (length s) h, ← f, le-ltb n (length s) g)
 
-    pub tag_is : (r : Tag) → n < length s → r ≡ tag_of s i (take (n - (i + 1)) (drop (i + 1) s)) (n + 1) → r ≡ tag_at s at
+    pub tag_is : (r : Result Tag Refusal) → n < length s → r ≡ tag_of s i (take (n - (i + 1)) (drop (i + 1) s)) (n + 1) → r ≡ tag_at s at
     unfolding tag_at open_at closed_at
     tag_is r g q = simp (← e, lt-ltb i (length s) h, ← f, lt-ltb n (length s) g) q

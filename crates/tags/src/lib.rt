@@ -6,7 +6,6 @@ ghost use Rattle.std.specs.Prelude.{◌≡◌, ◌+◌, ◌-◌, ◌≤◌, ◌<
 ghost use Rattle.text.specs.Pick.{pick};
 ghost use Rattle.tags.specs.Tags.{kind_of, length_after, value_of, tag_of, tag_at};
 
-use decimal::Unsigned;
 use refusals::Refusal;
 
 // What a name makes of its tag.
@@ -36,7 +35,6 @@ pub enum Tag {
         value: usize,
         value_length: usize,
     },
-    Refused(Refusal),
 }
 
 pub fn kind_of(name: &[u8]) -> Kind
@@ -55,7 +53,7 @@ pub fn kind_of(name: &[u8]) -> Kind
 }
 
 // The length after the colon at c of a tag's inside.
-fn length_after(t: &[u8], c: usize) -> Unsigned
+fn length_after(t: &[u8], c: usize) -> Option<u64>
     requires { c < length t.now }
     ensures { result ≡ length_after t.now c }
 {
@@ -65,44 +63,49 @@ fn length_after(t: &[u8], c: usize) -> Unsigned
 }
 
 // The field whose tag is opened at `at`, whose name is the `size` bytes at `name`, and whose value starts at `next`.
-fn value_of(s: &[u8], at: usize, name: usize, size: usize, next: usize, number: Unsigned) -> Tag
+fn value_of(
+    s: &[u8],
+    at: usize,
+    name: usize,
+    size: usize,
+    next: usize,
+    number: Option<u64>,
+) -> Result<Tag, Refusal>
     requires { next ≤ length s.now }
     ensures { result ≡ value_of s.now at name size next number }
 {
-    match number {
-        Unsigned::Not => Tag::Refused(Refusal::BadLength {
-            at: at,
-            name: name,
+    let Some(wanted) = number else {
+        return Err(Refusal::BadLength {
+            at,
+            name,
             length: size,
-        }),
-        Unsigned::Is(n) => {
-            let left = s.len() - next;
-            if (left as u64) < n {
-                return Tag::Refused(Refusal::TruncatedValue {
-                    at: at,
-                    name: name,
-                    length: size,
-                    wanted: n,
-                    left: left as u64,
-                });
-            }
-            let end = next + n as usize;
-            if text::inside(text::byte(s, end), 0x80, 0xBF) {
-                return Tag::Refused(Refusal::NonUtf8 {
-                    at: at,
-                    name: name,
-                    length: size,
-                });
-            }
-            Tag::Field {
-                at: at,
-                name: name,
-                name_length: size,
-                value: next,
-                value_length: n as usize,
-            }
-        }
+        });
+    };
+    let left = (s.len() - next) as u64;
+    if left < wanted {
+        return Err(Refusal::TruncatedValue {
+            at,
+            name,
+            length: size,
+            wanted,
+            left,
+        });
     }
+    let value_length = wanted as usize;
+    if text::inside(text::byte(s, next + value_length), 0x80, 0xBF) {
+        return Err(Refusal::NonUtf8 {
+            at,
+            name,
+            length: size,
+        });
+    }
+    Ok(Tag::Field {
+        at,
+        name,
+        name_length: size,
+        value: next,
+        value_length,
+    })
 }
 
 // Where a name of n bytes stands: an empty one at place 0.
@@ -113,7 +116,7 @@ fn name_place(at: usize, n: usize) -> usize
 }
 
 // The tag that is opened at `at` and closed at `gt`.
-fn tag_of(s: &[u8], at: usize, gt: usize) -> Tag
+fn tag_of(s: &[u8], at: usize, gt: usize) -> Result<Tag, Refusal>
     requires { (at + 1 ≤ gt) × (gt < length s.now) }
     ensures { result ≡ tag_of s.now at (take (gt - (at + 1)) (drop (at + 1) s.now)) (gt + 1) }
 {
@@ -126,18 +129,17 @@ fn tag_of(s: &[u8], at: usize, gt: usize) -> Tag
     let rest = &w[i..];
     let n = text::space::trim_end(rest);
     let name = name_place(a + i, n);
-    let k = kind_of(&rest[..n]);
-    match k {
-        Kind::EndOfHeader => Tag::Eoh(next),
-        Kind::EndOfRecord => Tag::Eor { at: at, next: next },
-        Kind::EndOfFile => Tag::Eof,
+    match kind_of(&rest[..n]) {
+        Kind::EndOfHeader => Ok(Tag::Eoh(next)),
+        Kind::EndOfRecord => Ok(Tag::Eor { at, next }),
+        Kind::EndOfFile => Ok(Tag::Eof),
         Kind::FieldName => {
             if c < t.len() {
                 value_of(s, at, name, n, next, length_after(t, c))
             } else {
-                Tag::Refused(Refusal::MissingLength {
-                    at: at,
-                    name: name,
+                Err(Refusal::MissingLength {
+                    at,
+                    name,
                     length: n,
                 })
             }
@@ -146,22 +148,20 @@ fn tag_of(s: &[u8], at: usize, gt: usize) -> Tag
 }
 
 // The first tag from `at` on; past the end of the text, its end.
-pub fn next_tag(s: &[u8], at: usize) -> Tag
+pub fn next_tag(s: &[u8], at: usize) -> Result<Tag, Refusal>
     ensures { result ≡ tag_at s.now at }
 {
     if s.len() <= at {
-        return Tag::End;
+        return Ok(Tag::End);
     }
     let lt = text::find(s, at, b'<');
-    if lt < s.len() {
-        let a = lt + 1;
-        let gt = text::find(s, a, b'>');
-        if gt < s.len() {
-            tag_of(s, lt, gt)
-        } else {
-            Tag::Refused(Refusal::UnterminatedTag(lt))
-        }
-    } else {
-        Tag::End
+    if s.len() <= lt {
+        return Ok(Tag::End);
     }
+    let a = lt + 1;
+    let gt = text::find(s, a, b'>');
+    if s.len() <= gt {
+        return Err(Refusal::UnterminatedTag(lt));
+    }
+    tag_of(s, lt, gt)
 }

@@ -1,11 +1,11 @@
 // The count of confirmations, and the answers of a record, one after the other.
 #![tactic(auto)]
 
-ghost use Rattle.std.specs.Prelude.{◌≡◌, ◌+◌, ◌≤◌, ◌<◌, set};
-ghost use Rattle.model.specs.Flags.{one_if};
-ghost use Rattle.tallies.specs.Tallies.{target_in, target_of, is_new, is_old, is_lost, tally_with, card_for, unmarked, bits_of, services_in, Few, Grown};
+ghost use Rattle.std.specs.Prelude.{◌≡◌, ◌≤◌, set};
+ghost use Rattle.tallies.specs.Tallies.{target_in, target_of, is_new, is_old, is_lost, tally_with, card_for, unmarked, services_in, Few, Grown};
 
 use confirmations::Answer;
+use plan::CONFIRMED;
 
 // How many confirmations are to be recorded, were known already and match no contact; and the services that count at this record.
 #[derive(Clone, Copy)]
@@ -28,7 +28,13 @@ pub struct Target {
     pub high: u32,
 }
 
-const CONFIRMED: usize = 5;
+const LOTW: u32 = 1;
+
+const EQSL: u32 = 2;
+
+const QRZ: u32 = 4;
+
+const CARD: u32 = 8;
 
 // The contact whose entry is at `place`.
 fn target_in(list: &[u8], place: usize) -> Target
@@ -49,7 +55,7 @@ pub fn target_of(list: &[u8], fate: usize, hit: usize, place: usize) -> Target
     requires { place ≤ 16777216 }
     ensures { result ≡ target_of list.now fate hit place }
 {
-    if fate == CONFIRMED {
+    if fate == CONFIRMED as usize {
         if hit == 0 {
             return Target {
                 matched: true,
@@ -68,32 +74,27 @@ pub fn target_of(list: &[u8], fate: usize, hit: usize, place: usize) -> Target
     }
 }
 
+#[tactic(auto, unfolding(crate::specs::Tallies::is_new))]
 pub fn is_new(to: Target, counts: bool, service: u32) -> bool
     ensures { result ≡ is_new to counts service }
 {
     let held = counted::has_service(to.services, service);
-    text::all(counts, text::all(to.matched, !held))
+    counts && (to.matched && !held)
 }
 
+#[tactic(auto, unfolding(crate::specs::Tallies::is_old))]
 fn is_old(to: Target, counts: bool, service: u32) -> bool
     ensures { result ≡ is_old to counts service }
 {
     let held = counted::has_service(to.services, service);
-    text::all(counts, text::all(to.matched, held))
+    counts && (to.matched && held)
 }
 
+#[tactic(auto, unfolding(crate::specs::Tallies::is_lost))]
 fn is_lost(to: Target, counts: bool) -> bool
     ensures { result ≡ is_lost to counts }
 {
-    text::all(counts, !to.matched)
-}
-
-fn one_more(n: usize, counts: bool) -> usize
-    requires { n < 4611686018427387904 }
-    ensures value { result ≡ n + one_if counts }
-    ensures upper_bound { result ≤ n + 1 }
-{
-    if counts { n + 1 } else { n }
+    counts && !to.matched
 }
 
 // One more answer.
@@ -103,13 +104,13 @@ pub fn tally_with(to: Target, counts: bool, service: u32, t: Tally) -> Tally
     ensures grown { Grown 1 t result }
 {
     Tally {
-        used: one_more(t.used, is_new(to, counts, service)),
-        already: one_more(t.already, is_old(to, counts, service)),
-        unmatched: one_more(t.unmatched, is_lost(to, counts)),
-        lotw: text::any(t.lotw, text::all(counts, service == 1)),
-        eqsl: text::any(t.eqsl, text::all(counts, service == 2)),
-        qrz: text::any(t.qrz, text::all(counts, service == 4)),
-        qsl: text::any(t.qsl, text::all(counts, service == 8)),
+        used: t.used + usize::from(is_new(to, counts, service)),
+        already: t.already + usize::from(is_old(to, counts, service)),
+        unmatched: t.unmatched + usize::from(is_lost(to, counts)),
+        lotw: text::any(t.lotw, text::all(counts, service == LOTW)),
+        eqsl: text::any(t.eqsl, text::all(counts, service == EQSL)),
+        qrz: text::any(t.qrz, text::all(counts, service == QRZ)),
+        qsl: text::any(t.qsl, text::all(counts, service == CARD)),
     }
 }
 
@@ -133,26 +134,16 @@ pub fn with_none(t: Tally) -> Tally
     ensures { result ≡ unmarked t }
 {
     Tally {
-        used: t.used,
-        already: t.already,
-        unmatched: t.unmatched,
         lotw: false,
         eqsl: false,
         qrz: false,
         qsl: false,
+        ..t
     }
-}
-
-fn bits_of(lotw: bool, eqsl: bool, qrz: bool, qsl: bool) -> u32
-    ensures { result ≡ bits_of lotw eqsl qrz qsl }
-{
-    let first = one_more(0, lotw) + one_more(0, eqsl) * 2;
-    let last = one_more(0, qrz) * 4 + one_more(0, qsl) * 8;
-    (first + last) as u32
 }
 
 pub fn services_in(t: Tally) -> u32
     ensures { result ≡ services_in t }
 {
-    bits_of(t.lotw, t.eqsl, t.qrz, t.qsl)
+    u32::from(t.lotw) + u32::from(t.eqsl) * EQSL + u32::from(t.qrz) * QRZ + u32::from(t.qsl) * CARD
 }

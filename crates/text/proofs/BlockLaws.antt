@@ -3,14 +3,12 @@ use mathlib.Core.Path.{◌≡◌, refl, sym, ◌∙◌, subst}
 use mathlib.Core.Bool.{Bool, true, false}
 use mathlib.Core.List.{List}
 use Prim.Native.Nat.{ℕ, zero, suc, ◌+◌, ◌-◌, ◌≤◌, ◌<◌}
-use native.Mathlib.Nat.{add-zero, zero-add, suc-ne-zero, le_trans, eq-or-lt_of_le, le_of_suc-le-suc}
-use native.Mathlib.Numerals.{add-one}
+use native.Mathlib.Nat.{add-zero, zero-add, suc-ne-zero, le_trans}
 use native.Mathlib.Omega.{arith}
 use lib.ListN.{length, get_or, take, drop, length-take, length-drop}
 use lib.Dec.{ltb}
 use lib.Seq.{get_or-take, get_or-drop}
 use borrow.Author.Tests.{ltb-true, ltb-false}
-use mathlib.Core.Logic.{⊎_elim}
 use Rattle.text.specs.Walk.{ends}
 use Rattle.text.specs.Utf8.{char_len, valid_up_to, utf8}
 use Rattle.text.specs.Blocks.{Passed, UpTo}
@@ -52,18 +50,6 @@ module _ (s : List ℕ) (i e j a : ℕ) (p : Passed s i e j) (q : ends char_len 
 
   pub passed_bad : j < e → j ≡ a
   passed_bad h = here char_len s j 0 a (sym (p.stopped h)) refl passed_on
-
-pub up_to_none : (s : List ℕ) (t : ℕ) → (k : ℕ) → k < 0 → get_or s k 0 ≤ t
-up_to_none s t k h = absurd (omega arith)
-
--- one byte more
-pub up_to_more : (s : List ℕ) (i t r : ℕ) → ((k : ℕ) → k < i → get_or s k 0 ≤ t) → (t ≤ r) × (get_or s i 0 ≤ r) → (k : ℕ) → k < i + 1 → get_or s k 0 ≤ r
-up_to_more s i t r f b k h =
-    ⊎_elim (λ e. rw e b.1) (λ lt. le_trans (f k lt) b.0) (eq-or-lt_of_le (le_of_suc-le-suc (subst (λ (m : ℕ). k < m) (add-one i) h)))
-
-pub up_to_all : (s : List ℕ) (i t : ℕ) → length s ≤ i → ((k : ℕ) → k < i → get_or s k 0 ≤ t) → UpTo s t
-unfolding UpTo
-up_to_all s i t h f k lt = f k (omega arith)
 
 pub walk_starts : (s : List ℕ) → ends char_len s 0 ≡ valid_up_to s
 unfolding valid_up_to ends

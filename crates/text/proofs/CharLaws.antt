@@ -11,7 +11,7 @@ use borrow.Author.Tests.{le-leb, lt-leb, leb-true}
 use Rattle.text.specs.Pick.{pick, both, within}
 use Rattle.text.specs.Utf8.{char_len, long_char, second3, second4, cont}
 
--- `charLen` by its tests: t an ASCII byte; p, q two bytes; r, s, u three; v, w, u, x four
+-- `char_len` by its tests: t an ASCII byte; p, q two bytes; r, s, u three; v, w, u, x four
 abbrev wide : Bool → Bool → Bool → Bool → Bool → Bool → Bool → Bool → ℕ
 wide p q r s u v w x = pick p (pick q 2 0) (pick r (pick (both s u) 3 0) (pick v (pick (both w (both u x)) 4 0) 0))
 

@@ -6,16 +6,16 @@ use Prim.Native.Nat.{ℕ, suc, ◌+◌, ◌-◌, ◌≤◌, ◌<◌}
 use native.Mathlib.Nat.{le_refl, add-zero, zero-add, suc-ne-zero, not-suc-le-zero, le_of_suc-le-suc, eq-or-lt_of_le}
 use native.Mathlib.Omega.{arith}
 use mathlib.Core.List.{List, [], ◌∷◌, reverse, reverse-cons}
-use lib.ListN.{length, take, drop, get_or, length-drop, length-reverse, get_or-append, get_or-eq_default}
+use lib.ListN.{length, take, drop, get_or, length-drop, length-reverse, get_or-append}
 use lib.Seq.{get_or-drop, get_or_at, take_all}
 use lib.Dec.{lit≤, eqb, leb}
 use borrow.Author.Tests.{eq-eqb, ne_eqb, lt-leb, leb-true}
-use Rattle.text.specs.Pick.{within}
-use Rattle.text.specs.Space.{space1, space2, space3, space80, space_len, space_back, width, trim_start, trim_end, trimmed, blank}
+use Rattle.text.specs.Pick.{pick, within}
+use Rattle.text.specs.Space.{space1, space2, space3, space80, space_len, space_back, space_ahead, width, trim_start, trim_end, trimmed, blank}
 use Rattle.text.specs.Find.{other}
 use Rattle.text.specs.Walk.{ends, lead}
 use Rattle.text.proofs.BoolLaws.{both_left, both_right, both_no}
-use Rattle.text.proofs.Walks.{here, on, out, lead_le}
+use Rattle.text.proofs.Walks.{here, on, lead_le}
 use Rattle.text.proofs.Utf8Laws.{pick_le}
 
 module _ (s : List ℕ) (i n x y z : ℕ) (p q r : Bool) (ex : x ≡ get_or s i 0) (ey : y ≡ get_or s (i + 1) 0) (ez : z ≡ get_or s (i + 2) 0) (ep : p ≡ space1 x) (e : n ≡ width p q r) where
@@ -26,6 +26,12 @@ module _ (s : List ℕ) (i n x y z : ℕ) (p q r : Bool) (ex : x ≡ get_or s i 
   pub back : q ≡ space2 y x → r ≡ space3 z y x → n ≡ space_back (drop i s)
   unfolding space_back
   back eq er = simp (get_or-drop, add-zero, ← ex, ← ey, ← ez, ← ep, ← eq, ← er) e
+
+  pub ahead_back : (d : Bool) → d ≡ true → q ≡ space2 y x → r ≡ space3 z y x → n ≡ space_ahead d (drop i s)
+  ahead_back d t eq er = rw t (back eq er)
+
+  pub ahead_front : (d : Bool) → d ≡ false → q ≡ space2 x y → r ≡ space3 x y z → n ≡ space_ahead d (drop i s)
+  ahead_front d t eq er = rw t (front eq er)
 
 -- a plain byte neither begins nor ends white space
 module _ (s : List ℕ) (i x : ℕ) (t : Bool) (ex : x ≡ get_or s i 0) (et : t ≡ within x 0x21 0x7F) (yes : t ≡ true) where
@@ -111,12 +117,6 @@ back_within (a ∷ b ∷ c ∷ r) h = omega (arith, three_le (space1 a) (space2 
 pub front_fits : (s : List ℕ) (i n : ℕ) → i < length s → n ≡ space_len (drop i s) → i + n ≤ length s
 front_fits s i n h e = rw e (omega (arith, length-drop i s, front_within (drop i s) (simp length-drop (omega arith))))
 
-pub back_fits : (s : List ℕ) (i n : ℕ) → i < length s → n ≡ space_back (drop i (reverse s)) → i + n ≤ length s
-back_fits s i n h e =
-    rw e
-    (omega
-    (arith, length-drop i (reverse s), length-reverse s, back_within (drop i (reverse s)) (simp (length-drop, length-reverse) (omega arith))))
-
 pub get_d_reverse : (s : List ℕ) (i : ℕ) → i < length s → get_or s (length s - 1 - i) 0 ≡ get_or (reverse s) i 0
 get_d_reverse [] i h = absurd (not-suc-le-zero h)
 get_d_reverse (x ∷ xs) i h =
@@ -130,8 +130,28 @@ get_d_reverse (x ∷ xs) i h =
     (get_d_reverse xs i lt ∙ sym (get_or-append (reverse xs) (x ∷ []) 0 i (rw length-reverse lt))))
     (eq-or-lt_of_le (le_of_suc-le-suc h))
 
-pub get_d-before : (s : List ℕ) (i : ℕ) → length s ≤ i → 0 ≡ get_or (reverse s) i 0
-get_d-before s i h = sym (get_or-eq_default (reverse s) 0 (rw length-reverse h))
+-- the same of either end
+pub plain_ahead : (d : Bool) (s : List ℕ) (i x : ℕ) (t : Bool) → x ≡ get_or s i 0 → t ≡ within x 0x21 0x7F → t ≡ true → 0 ≡ space_ahead d (drop i s)
+plain_ahead true s i x t ex et y = plain_back s i x t ex et y
+plain_ahead false s i x t ex et y = plain_front s i x t ex et y
+
+pub one_ahead : (d : Bool) (s : List ℕ) (i x : ℕ) (p : Bool) → x ≡ get_or s i 0 → p ≡ space1 x → p ≡ true → 1 ≡ space_ahead d (drop i s)
+unfolding space_len space_back width
+one_ahead true s i x p ex ep y = simp (get_or-drop, add-zero, ← ex, ← ep, y)
+one_ahead false s i x p ex ep y = simp (get_or-drop, add-zero, ← ex, ← ep, y)
+
+pub ahead_within : (d : Bool) (xs : List ℕ) → 0 < length xs → space_ahead d xs ≤ length xs
+ahead_within true xs h = back_within xs h
+ahead_within false xs h = front_within xs h
+
+pub length-end : (d : Bool) (s : List ℕ) → length (pick d (reverse s) s) ≡ length s
+length-end true s = length-reverse s
+length-end false s = refl
+
+pub ahead_fits : (d : Bool) (s : List ℕ) (i n : ℕ) → i < length s → n ≡ space_ahead d (drop i (pick d (reverse s) s)) → i + n ≤ length s
+ahead_fits d s i n h e =
+    let l = length-end d s in
+    rw e (omega (arith, length-drop i (pick d (reverse s) s), ahead_within d (drop i (pick d (reverse s) s)) (simp length-drop (omega arith))))
 
 -- a search for b: it is here, or it goes on
 pub is_here : (s : List ℕ) (i b : ℕ) → get_or s i 0 ≡ b → 0 ≡ other b (drop i s)
@@ -153,19 +173,9 @@ pub end_start : (s : List ℕ) → From-end s 0
 unfolding From-end ends
 end_start s = simp zero-add
 
-pub end_on : (s : List ℕ) (i w : ℕ) → w ≡ space_back (drop i (reverse s)) → (w ≡ 0 → ⊥) → i + w ≤ length s → From-end s i → From-end s (i + w)
-unfolding From-end
-end_on s i w e n b q = on space_back (reverse s) i w _ e n (rw length-reverse b) q
-
 pub end_here : (s : List ℕ) (i w : ℕ) → w ≡ space_back (drop i (reverse s)) → w ≡ 0 → From-end s i → length s - i ≡ trim_end s
 unfolding From-end trim_end
 end_here s i w e z q = ap (λ (k : ℕ). length s - k) (here space_back (reverse s) i w _ e z q)
-
-pub end_out : (s : List ℕ) (i : ℕ) → length s ≤ i → From-end s i → 0 ≡ trim_end s
-unfolding From-end trim_end
-end_out s i b q =
-    let e : i ≡ lead space_back (reverse s) = out space_back (reverse s) i _ (rw length-reverse b) q in
-    rw (← e) (omega arith)
 
 pub start_le : (xs : List ℕ) → trim_start xs ≤ length xs
 unfolding trim_start

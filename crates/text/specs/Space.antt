@@ -1,5 +1,5 @@
 -- White space (Unicode's White_Space) as the bytes of UTF-8, at the front and at the end of a list.
-use Rattle.std.specs.Prelude.{ℕ, ◌-◌, Bool, List, reverse, length, get_or, take, drop, eqb}
+use Rattle.std.specs.Prelude.{ℕ, ◌-◌, Bool, true, false, List, reverse, length, get_or, take, drop, eqb}
 use Rattle.text.specs.Pick.{pick, both, either, within}
 use Rattle.text.specs.Walk.{lead}
 
@@ -33,6 +33,11 @@ space_len xs = width (space1 (get_or xs 0 0)) (space2 (get_or xs 0 0) (get_or xs
 
 unfoldable pub space_back : List ℕ → ℕ
 space_back xs = width (space1 (get_or xs 0 0)) (space2 (get_or xs 1 0) (get_or xs 0 0)) (space3 (get_or xs 2 0) (get_or xs 1 0) (get_or xs 0 0))
+
+-- the one read from the end, or the other
+abbrev pub space_ahead : Bool → List ℕ → ℕ
+space_ahead true xs = space_back xs
+space_ahead false xs = space_len xs
 
 -- where the text starts, after white space; where it ends, before white space
 unfoldable pub trim_start : List ℕ → ℕ

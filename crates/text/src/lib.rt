@@ -12,26 +12,26 @@ pub mod utf8;
 pub fn all(a: bool, b: bool) -> bool
     ensures { result ≡ both a b }
 {
-    if a { b } else { false }
+    a && b
 }
 
 pub fn any(a: bool, b: bool) -> bool
     ensures { result ≡ either a b }
 {
-    if a { true } else { b }
+    a || b
 }
 
 pub fn inside(x: u8, lo: u8, hi: u8) -> bool
     ensures { result ≡ within x lo hi }
 {
-    lo <= x && x <= hi
+    (lo..=hi).contains(&x)
 }
 
 // The byte at i, or 0 past the end.
 pub fn byte(s: &[u8], i: usize) -> u8
     ensures { result ≡ get_or s.now i 0 }
 {
-    if i < s.len() { s[i] } else { 0 }
+    s.get(i).copied().unwrap_or(0)
 }
 
 // The place of the first b from `from` on, or the length.
@@ -40,12 +40,10 @@ pub fn find(s: &[u8], from: usize, b: u8) -> usize
     ensures value { result ≡ ends (other b) s.now from }
     ensures lower_bound { (from ≤ result) × (result ≤ length s.now) }
 {
-    let mut i = from;
-    while i < s.len() {
+    for i in from..s.len() {
         if s[i] == b {
             return i;
         }
-        i += 1;
     }
-    i
+    s.len()
 }

@@ -1,48 +1,55 @@
 // White space (Unicode's White_Space), and texts trimmed of it.
 ghost use Rattle.std.specs.Prelude.{◌≡◌, reverse, ◌+◌, ◌≤◌, ◌<◌, length, get_or, drop};
-ghost use Rattle.text.specs.Pick.{within};
-ghost use Rattle.text.specs.Space.{space1, space2, space80, space3, space_len, space_back, width, trim_start, trim_end, trimmed, blank};
+ghost use Rattle.text.specs.Pick.{pick, within};
+ghost use Rattle.text.specs.Walk.{lead};
+ghost use Rattle.text.specs.Space.{space1, space2, space80, space3, space_ahead, width, trim_start, trim_end, trimmed, blank};
 
-use super::{all, any, byte, inside};
+use super::inside;
 
+#[tactic(auto, unfolding(crate::specs::Space::space1))]
 fn is_space1(a: u8) -> bool
     ensures { result ≡ space1 a }
 {
-    any(inside(a, 0x09, 0x0D), a == 0x20)
+    inside(a, 0x09, 0x0D) || a == 0x20
 }
 
+#[tactic(auto, unfolding(crate::specs::Space::space2))]
 fn is_space2(a: u8, b: u8) -> bool
     ensures { result ≡ space2 a b }
 {
-    all(a == 0xC2, any(b == 0x85, b == 0xA0))
+    a == 0xC2 && (b == 0x85 || b == 0xA0)
 }
 
+#[tactic(auto, unfolding(crate::specs::Space::space80))]
 fn is_space80(c: u8) -> bool
     ensures { result ≡ space80 c }
 {
-    any(inside(c, 0x80, 0x8A), any(inside(c, 0xA8, 0xA9), c == 0xAF))
+    inside(c, 0x80, 0x8A) || inside(c, 0xA8, 0xA9) || c == 0xAF
 }
 
+#[tactic(auto, unfolding(crate::specs::Space::space3))]
 fn is_space3(a: u8, b: u8, c: u8) -> bool
     ensures { result ≡ space3 a b c }
 {
-    let u = all(all(a == 0xE1, b == 0x9A), c == 0x80);
-    let v = all(all(a == 0xE2, b == 0x80), is_space80(c));
-    let w = all(all(a == 0xE2, b == 0x81), c == 0x9F);
-    let x = all(all(a == 0xE3, b == 0x80), c == 0x80);
-    any(u, any(v, any(w, x)))
+    (a == 0xE1 && b == 0x9A && c == 0x80)
+        || (a == 0xE2 && b == 0x80 && is_space80(c))
+        || (a == 0xE2 && b == 0x81 && c == 0x9F)
+        || (a == 0xE3 && b == 0x80 && c == 0x80)
 }
 
+#[tactic(auto, unfolding(crate::specs::Space::width))]
 fn width_of(p: bool, q: bool, r: bool) -> usize
     ensures { result ≡ width p q r }
 {
     if p {
-        return 1;
+        1
+    } else if q {
+        2
+    } else if r {
+        3
+    } else {
+        0
     }
-    if q {
-        return 2;
-    }
-    if r { 3 } else { 0 }
 }
 
 // Visible ASCII or DEL, which neither begins nor ends white space.
@@ -52,54 +59,51 @@ fn is_plain(a: u8) -> bool
     inside(a, 0x21, 0x7F)
 }
 
-fn space_at(s: &[u8], i: usize) -> usize
-    requires { i < length s.now }
-    ensures value { result ≡ space_len (drop i s.now) }
-    ensures result_in_bounds { i + result ≤ length s.now }
-{
-    let a = byte(s, i);
-    if is_plain(a) {
-        return 0;
-    }
-    let b = byte(s, i + 1);
-    let c = byte(s, i + 2);
-    width_of(is_space1(a), is_space2(a, b), is_space3(a, b, c))
-}
-
-// The byte at i from the end, or 0 before the front.
-fn byte_back(s: &[u8], i: usize) -> u8
-    ensures { result ≡ get_or (reverse s.now) i 0 }
+// The byte at i, counted from the end where `back`, or 0 past all of them.
+#[inline(always)]
+fn byte_from(s: &[u8], i: usize, back: bool) -> u8
+    ensures { result ≡ get_or (pick back (reverse s.now) s.now) i 0 }
 {
     if i < s.len() {
-        let k = s.len() - 1 - i;
-        s[k]
+        s[if back { s.len() - 1 - i } else { i }]
     } else {
         0
     }
 }
 
-fn space_back(s: &[u8], i: usize) -> usize
+// How many bytes of white space stand at i, read from the end where `back`.
+#[inline(always)]
+fn space_from(s: &[u8], i: usize, back: bool) -> usize
     requires { i < length s.now }
-    ensures value { result ≡ space_back (drop i (reverse s.now)) }
+    ensures value { result ≡ space_ahead back (drop i (pick back (reverse s.now) s.now)) }
     ensures result_in_bounds { i + result ≤ length s.now }
 {
-    let a = byte_back(s, i);
+    let a = byte_from(s, i, back);
     if is_plain(a) {
         return 0;
     }
-    let b = byte_back(s, i + 1);
-    let c = byte_back(s, i + 2);
-    width_of(is_space1(a), is_space2(b, a), is_space3(c, b, a))
+    let one = is_space1(a);
+    if one {
+        return 1;
+    }
+    let b = byte_from(s, i + 1, back);
+    let c = byte_from(s, i + 2, back);
+    if back {
+        width_of(one, is_space2(b, a), is_space3(c, b, a))
+    } else {
+        width_of(one, is_space2(a, b), is_space3(a, b, c))
+    }
 }
 
-// Where the text of s starts, after white space.
-pub fn trim_start(s: &[u8]) -> usize
-    ensures value { result ≡ trim_start s.now }
+// How many bytes of white space s begins with, or ends with where `back`.
+#[inline(always)]
+fn spaces(s: &[u8], back: bool) -> usize
+    ensures value { result ≡ lead (space_ahead back) (pick back (reverse s.now) s.now) }
     ensures upper_bound { result ≤ length s.now }
 {
     let mut i = 0;
     while i < s.len() {
-        let w = space_at(s, i);
+        let w = space_from(s, i, back);
         if w == 0 {
             return i;
         }
@@ -108,22 +112,24 @@ pub fn trim_start(s: &[u8]) -> usize
     i
 }
 
+// Where the text of s starts, after white space.
+pub fn trim_start(s: &[u8]) -> usize
+    ensures value { result ≡ trim_start s.now }
+    ensures upper_bound { result ≤ length s.now }
+{
+    spaces(s, false)
+}
+
 // Where the text of s ends, before white space.
 pub fn trim_end(s: &[u8]) -> usize
     ensures value { result ≡ trim_end s.now }
     ensures upper_bound { result ≤ length s.now }
 {
-    let mut i = 0;
-    while i < s.len() {
-        let w = space_back(s, i);
-        if w == 0 {
-            return s.len() - i;
-        }
-        i += w;
-    }
-    0
+    s.len() - spaces(s, true)
 }
 
+// By itself, so that the two tests of `trim` are compiled into its callers and this is not.
+#[inline(never)]
 fn cut(s: &[u8]) -> &[u8]
     ensures { result.now ≡ trimmed s.now }
 {
@@ -134,16 +140,15 @@ fn cut(s: &[u8]) -> &[u8]
 }
 
 // s without the white space at both ends. Most texts have none, and two bytes tell.
+#[inline(always)]
 pub fn trim(s: &[u8]) -> &[u8]
     ensures { result.now ≡ trimmed s.now }
 {
-    if !is_plain(byte(s, 0)) {
-        return cut(s);
+    if is_plain(byte_from(s, 0, false)) && is_plain(byte_from(s, 0, true)) {
+        s
+    } else {
+        cut(s)
     }
-    if !is_plain(byte_back(s, 0)) {
-        return cut(s);
-    }
-    s
 }
 
 // s is empty or white space throughout.

@@ -1,10 +1,10 @@
 // UTF-8, as Unicode's table 3-7 has it.
 ghost use Rattle.std.specs.Prelude.{◌≡◌, ◌+◌, ◌≤◌, ◌<◌, length, drop};
 ghost use Rattle.text.specs.Pick.{pick};
-ghost use Rattle.text.specs.Utf8.{long_char, char_len, valid_up_to, second3, second4, utf8};
+ghost use Rattle.text.specs.Utf8.{cont, long_char, char_len, valid_up_to, second3, second4, utf8};
 ghost use Rattle.text.specs.Blocks.{Passed, UpTo};
 
-use super::{all, byte, inside};
+use super::{byte, inside};
 
 // How many bytes are looked at together.
 const BLOCK: usize = 256;
@@ -12,18 +12,19 @@ const BLOCK: usize = 256;
 // Texts of fewer bytes are looked at byte by byte.
 const SHORT: usize = 8;
 
-fn take_if(t: bool, n: usize) -> usize
-    ensures { result ≡ pick t n 0 }
-{
-    if t { n } else { 0 }
-}
-
 fn choose(t: bool, a: u8, b: u8) -> u8
     ensures { result ≡ pick t a b }
 {
     if t { a } else { b }
 }
 
+fn continues(b: u8) -> bool
+    ensures { result ≡ cont b }
+{
+    inside(b, 0x80, 0xBF)
+}
+
+#[tactic(auto, unfolding(crate::specs::Utf8::second3))]
 fn second_of_3(a: u8, b: u8) -> bool
     ensures { result ≡ second3 a b }
 {
@@ -34,6 +35,7 @@ fn second_of_3(a: u8, b: u8) -> bool
     )
 }
 
+#[tactic(auto, unfolding(crate::specs::Utf8::second4))]
 fn second_of_4(a: u8, b: u8) -> bool
     ensures { result ≡ second4 a b }
 {
@@ -44,25 +46,16 @@ fn second_of_4(a: u8, b: u8) -> bool
     )
 }
 
+#[tactic(auto, unfolding(crate::specs::Utf8::long_char))]
 fn long_char(a: u8, b: u8, c: u8, d: u8) -> usize
     ensures { result ≡ long_char a b c d }
 {
-    if inside(a, 0xC2, 0xDF) {
-        return take_if(inside(b, 0x80, 0xBF), 2);
+    match a {
+        0xC2..=0xDF if continues(b) => 2,
+        0xE0..=0xEF if second_of_3(a, b) && continues(c) => 3,
+        0xF0..=0xF4 if second_of_4(a, b) && continues(c) && continues(d) => 4,
+        _ => 0,
     }
-    if inside(a, 0xE0, 0xEF) {
-        return take_if(all(second_of_3(a, b), inside(c, 0x80, 0xBF)), 3);
-    }
-    if inside(a, 0xF0, 0xF4) {
-        return take_if(
-            all(
-                second_of_4(a, b),
-                all(inside(c, 0x80, 0xBF), inside(d, 0x80, 0xBF)),
-            ),
-            4,
-        );
-    }
-    0
 }
 
 // How many bytes the character at i has, 0 where none begins there.
@@ -98,21 +91,14 @@ fn chars_up_to(s: &[u8], from: usize, to: usize) -> usize
     i
 }
 
-fn larger(a: u8, b: u8) -> u8
-    ensures { (a ≤ result) × (b ≤ result) }
-{
-    if a < b { b } else { a }
-}
-
 // A byte that no byte of s is above.
+#[tactic(auto, unfolding(crate::specs::Blocks::UpTo))]
 fn largest(s: &[u8]) -> u8
     ensures { UpTo s.now result }
 {
     let mut top: u8 = 0;
-    let mut i = 0;
-    while i < s.len() {
-        top = larger(top, s[i]);
-        i += 1;
+    for &b in s {
+        top = top.max(b);
     }
     top
 }
@@ -122,7 +108,7 @@ fn block_end(i: usize, len: usize) -> usize
     requires { i < len }
     ensures { (i < result) × (result ≤ len) }
 {
-    if len - i <= BLOCK { len } else { i + BLOCK }
+    i + (len - i).min(BLOCK)
 }
 
 // A block of ASCII is whole characters and is passed at once.
@@ -149,14 +135,12 @@ fn blocks_up_to(s: &[u8]) -> usize
 fn ascii_in_front(s: &[u8]) -> usize
     ensures { Passed s.now 0 0 result }
 {
-    let mut i = 0;
-    while i < s.len() {
+    for i in 0..s.len() {
         if 0x7F < s[i] {
             return i;
         }
-        i += 1;
     }
-    i
+    s.len()
 }
 
 // The place of the first byte that belongs to no whole character, or the length. For the few bytes of a name no block pays.

@@ -1,4 +1,5 @@
 -- Laws of `specs/Moments.antt`. Assumes nothing.
+use Rattle.std.specs.Prelude.{Option, Some, None}
 use mathlib.Core.Path.{◌≡◌, refl, sym, ap, ◌∙◌}
 use mathlib.Core.Bool.{Bool, true, false}
 use mathlib.Core.List.{List, [], ◌∷◌}
@@ -9,16 +10,11 @@ use lib.ListN.{length}
 use lib.Dec.{eqb, leb, ltb}
 use borrow.Author.Tests.{eq-eqb, ne_eqb, leb-true}
 use Rattle.text.specs.Pick.{pick, both, within}
-use Rattle.text.specs.Space.{trimmed}
 use Rattle.text.proofs.BoolLaws.{both_left, both_right}
 use Rattle.decimal.specs.Decimal.{all_digits, number, digits_after, digits_of}
-use Rattle.decimal.specs.declared.Unsigned.{Unsigned}
-use Rattle.decimal.specs.declared.Unsigned.TheVariants.{Is, Not}
-use Rattle.times.specs.Calendar.{leap, month_days, is_day, day_number}
-use Rattle.times.specs.Moments.{date_of, hundredfold, clock_of, is_clock, seconds_of, moment_at, moment_by, moment_of}
+use Rattle.times.specs.Calendar.{leap, month_days, is_day}
+use Rattle.times.specs.Moments.{date_of, hundredfold, clock_of, is_clock}
 use Rattle.times.specs.Bounds.{Below}
-use Rattle.times.specs.declared.Moment.{Moment}
-use Rattle.times.specs.declared.Moment.TheVariants.{At, Never}
 
 -- ---- digits make a number below ten to their count
 number_short : (n : ℕ) (ds : List ℕ) → all_digits ds ≡ true → number n ds < (n + 1) * 10 ^ length ds
@@ -37,17 +33,17 @@ digits_below : (ds : List ℕ) (b : ℕ) → 10 ^ length ds ≤ b → Below b (d
 unfolding digits_of digits_after
 digits_below ds b h = outer (eqb (length ds) 0)
   where
-    inner : (s u : Bool) → all_digits ds ≡ s → Below b (pick (both s u) (Is (number 0 ds)) Not)
+    inner : (s u : Bool) → all_digits ds ≡ s → Below b (pick (both s u) (Some (number 0 ds)) None)
     inner true true e = omega (arith, number_short 0 ds e)
     inner true false e = tt
     inner false u e = tt
 
-    outer : (t : Bool) → Below b (pick t Not (pick (both (all_digits ds) (ltb (number 0 ds) (2 ^ 64))) (Is (number 0 ds)) Not))
+    outer : (t : Bool) → Below b (pick t None (pick (both (all_digits ds) (ltb (number 0 ds) (2 ^ 64))) (Some (number 0 ds)) None))
     outer true = tt
     outer false = inner (all_digits ds) (ltb (number 0 ds) (2 ^ 64)) refl
 
 -- a number that was read from a text of 8, 4 or 6 bytes
-module _ (d : List ℕ) (r : Unsigned) (e : r ≡ digits_of d) where
+module _ (d : List ℕ) (r : Option ℕ) (e : r ≡ digits_of d) where
   pub eight_is : length d ≡ 8 → r ≡ date_of d
   unfolding date_of
   eight_is h = e ∙ sym (rw (eq-eqb (length d) 8 h) refl)
@@ -58,7 +54,7 @@ module _ (d : List ℕ) (r : Unsigned) (e : r ≡ digits_of d) where
   pub four_below : length d ≡ 4 → Below 1000000 r
   four_below h = rw e (digits_below d 1000000 (rw h (omega arith)))
 
-  pub four_is : (q : Unsigned) → length d ≡ 4 → q ≡ hundredfold r → q ≡ clock_of d
+  pub four_is : (q : Option ℕ) → length d ≡ 4 → q ≡ hundredfold r → q ≡ clock_of d
   unfolding clock_of
   four_is q h f = f ∙ ap hundredfold e ∙ sym (rw (eq-eqb (length d) 4 h) refl)
 
@@ -69,40 +65,13 @@ module _ (d : List ℕ) (r : Unsigned) (e : r ≡ digits_of d) where
   pub six_below : length d ≡ 6 → Below 100000000 r
   six_below h = rw e (digits_below d 100000000 (rw h (omega arith)))
 
-pub no_date : (d : List ℕ) → (length d ≡ 8 → ⊥) → Not ≡ date_of d
+pub no_date : (d : List ℕ) → (length d ≡ 8 → ⊥) → None ≡ date_of d
 unfolding date_of
 no_date d n = rw (ne_eqb (length d) 8 n) refl
 
-pub no_clock : (d : List ℕ) → (length d ≡ 4 → ⊥) → (length d ≡ 6 → ⊥) → Not ≡ clock_of d
+pub no_clock : (d : List ℕ) → (length d ≡ 4 → ⊥) → (length d ≡ 6 → ⊥) → None ≡ clock_of d
 unfolding clock_of
 no_clock d n m = rw (ne_eqb (length d) 4 n, ne_eqb (length d) 6 m) refl
-
--- hundredfold
-module _ (u : Unsigned) (n : ℕ) (e : u ≡ Is n) where
-  pub below_is : (b : ℕ) → Below b u → n < b
-  below_is b h = rw e at h
-
-  pub hundred_is : Is (n * 100) ≡ hundredfold u
-  hundred_is = rw e refl
-
-pub hundred_not : (u : Unsigned) → u ≡ Not → Not ≡ hundredfold u
-hundred_not u e = rw e refl
-
--- ---- the moment
-module _ (date clock : ℕ) (t : Bool) (et : t ≡ is_day (date / 10000) (date / 100 % 100) (date % 100)) where
-  pub no_day : t ≡ false → Never ≡ moment_at date clock
-  unfolding moment_at
-  no_day h = rw (← et, h) refl
-
-  module _ (y : t ≡ true) (u : Bool) (eu : u ≡ is_clock (clock / 10000) (clock / 100 % 100) (clock % 100)) where
-    pub no_time : u ≡ false → Never ≡ moment_at date clock
-    unfolding moment_at
-    no_time h = rw (← et, y, ← eu, h) refl
-
-    pub moment_is : (n s : ℕ) → u ≡ true → n ≡ day_number (date / 10000) (date / 100 % 100) (date % 100)
-        → s ≡ seconds_of n (clock / 10000) (clock / 100 % 100) (clock % 100) → At s ≡ moment_at date clock
-    unfolding moment_at
-    moment_is n s h en es = rw (← et, y, ← eu, h, ← en, es) refl
 
 -- what a test of a day and of a time of day tells
 day_within : (y m d : ℕ) (t : Bool) → t ≡ is_day y m d → t ≡ true → m ≤ 12
@@ -124,20 +93,3 @@ clock_within h m s u e n =
 pub seconds_asked : (n clock : ℕ) (u : Bool) → n ≤ 3661000 → u ≡ is_clock (clock / 10000) (clock / 100 % 100) (clock % 100) → u ≡ true
     → (n ≤ 3661000) × ((clock / 10000 ≤ 23) × ((clock / 100 % 100 ≤ 59) × (clock % 100 ≤ 59)))
 seconds_asked n clock u b e h = (b, clock_within (clock / 10000) (clock / 100 % 100) (clock % 100) u e h)
-
--- by the two numbers
-module _ (d c : Unsigned) where
-  pub date_missing : d ≡ Not → Never ≡ moment_by d c
-  date_missing e = rw e refl
-
-  module _ (n : ℕ) (e : d ≡ Is n) where
-    pub clock_missing : c ≡ Not → Never ≡ moment_by d c
-    clock_missing f = rw (e, f) refl
-
-    pub both_there : (m : ℕ) (r : Moment) → c ≡ Is m → r ≡ moment_at n m → r ≡ moment_by d c
-    both_there m r f q = rw (e, f) q
-
-pub moment_of_is : (date time : List ℕ) (d t : List ℕ) (x y : Unsigned) (r : Moment) → d ≡ trimmed date → t ≡ trimmed time → x ≡ date_of d → y ≡ clock_of t
-    → r ≡ moment_by x y → r ≡ moment_of date time
-unfolding moment_of
-moment_of_is date time d t x y r ed et ex ey er = rw (← ed, ← et, ← ex, ← ey) er

@@ -1,5 +1,4 @@
--- The two formulas of months are the calendar's, by one computed test of all months in both kinds of year; and what the tests of a day
--- and of a time of day ask. Assumes nothing.
+-- The two formulas of months are the calendar's, by one computed test of all months in both kinds of year. Assumes nothing.
 use mathlib.Core.Path.{◌≡◌, refl, sym, ◌∙◌}
 use mathlib.Core.Bool.{Bool, true, false}
 use Prim.Native.Nat.{ℕ, zero, suc, ◌+◌, ◌-◌, ◌*◌, ◌/◌, ◌%◌, ◌≤◌, ◌<◌}
@@ -9,8 +8,7 @@ use lib.Dec.{eqb, leb}
 use borrow.Author.Tests.{eqb-true, eq-eqb, ne_eqb, le-leb, lt-leb}
 use Rattle.text.specs.Pick.{pick, both}
 use Rattle.text.proofs.BoolLaws.{both_left, both_right}
-use Rattle.times.specs.Calendar.{leap, month_days, days_before_year, days_before_month, is_day, day_number}
-use Rattle.times.specs.Moments.{is_clock}
+use Rattle.times.specs.Calendar.{month_days, days_before_month}
 
 -- a test of every number below n
 abbrev all_below : (ℕ → Bool) → ℕ → Bool
@@ -84,29 +82,3 @@ module _ (l : Bool) (m : ℕ) (h : m ≤ 12) where
 
     pub common_february : m ≡ 2 → l ≡ false → 28 ≡ month_days l m
     common_february e y = sym (rw (eq-eqb m 2 e, y) refl) ∙ days_are
-
--- a day
-module _ (y m d : ℕ) where
-  pub no_month : m < 1 → false ≡ is_day y m d
-  unfolding is_day
-  no_month h = simp (lt-leb 1 m h)
-
-  pub no_thirteenth : 12 < m → false ≡ is_day y m d
-  unfolding is_day
-  no_thirteenth h = simp (le-leb 1 m (omega arith), lt-leb m 12 h)
-
-  pub day_is : 1 ≤ m → m ≤ 12 → (l : Bool) (n : ℕ) (r : Bool) → l ≡ leap y → n ≡ month_days l m → r ≡ both (leb 1 d) (leb d n) → r ≡ is_day y m d
-  unfolding is_day
-  day_is p q l n r el en er = simp (le-leb 1 m p, le-leb m 12 q) (er ∙ rw (en, el) refl)
-
-  pub number_is : (a b : ℕ) (l : Bool) → a ≡ days_before_year y → l ≡ leap y → b ≡ days_before_month l m → 0 < d → a + b + (d - 1) ≡ day_number y m d
-  unfolding day_number
-  number_is a b l ea el eb h = rw (ea, eb, el) refl
-
-  pub number_zero : (a b : ℕ) (l : Bool) → a ≡ days_before_year y → l ≡ leap y → b ≡ days_before_month l m → d ≤ 0 → a + b ≡ day_number y m d
-  unfolding day_number
-  number_zero a b l ea el eb h = rw (ea, eb, el) (omega arith)
-
-pub clock_is : (h m s : ℕ) (u r : Bool) → u ≡ both (leb m 59) (leb s 59) → r ≡ both (leb h 23) u → r ≡ is_clock h m s
-unfolding is_clock
-clock_is h m s u r eu er = er ∙ rw eu refl

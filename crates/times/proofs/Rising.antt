@@ -1,4 +1,5 @@
 -- Moments rise strictly with date and time, so two different ones never share a number. Assumes nothing.
+use Rattle.std.specs.Prelude.{Some, None}
 use mathlib.Core.Path.{◌≡◌, refl, sym, ap}
 use mathlib.Core.Bool.{Bool, true, false}
 use mathlib.Core.Logic.{◌⊎◌, inl, inr, ⊎_elim}
@@ -11,7 +12,6 @@ use Rattle.text.specs.Pick.{pick, both, within}
 use Rattle.text.proofs.BoolLaws.{both_left, both_right}
 use Rattle.times.specs.Calendar.{leap, year_days, month_days, days_before_year, days_before_month, is_day, day_number}
 use Rattle.times.specs.Moments.{is_clock, seconds_of, moment_at}
-use Rattle.times.specs.declared.Moment.TheVariants.{At, Never}
 
 -- ---- more months and more years have no fewer days
 months_rise : (l : Bool) (m n : ℕ) → m ≤ n → days_before_month l m ≤ days_before_month l n
@@ -110,12 +110,12 @@ record Named (n c s : ℕ) : Type 0 where
   time : (c / 10000 ≤ 23) × ((c / 100 % 100 ≤ 59) × (c % 100 ≤ 59))
   seconds : s ≡ seconds_of (day_number (n / 10000) (n / 100 % 100) (n % 100)) (c / 10000) (c / 100 % 100) (c % 100)
 
-named : (n c s : ℕ) → moment_at n c ≡ At s → Named n c s
+named : (n c s : ℕ) → moment_at n c ≡ Some s → Named n c s
 unfolding moment_at
 named n c s e = by (is_day (n / 10000) (n / 100 % 100) (n % 100)) (is_clock (c / 10000) (c / 100 % 100) (c % 100)) refl refl e
   where
     by : (t u : Bool) → is_day (n / 10000) (n / 100 % 100) (n % 100) ≡ t → is_clock (c / 10000) (c / 100 % 100) (c % 100) ≡ u
-        → pick (both t u) (At (seconds_of (day_number (n / 10000) (n / 100 % 100) (n % 100)) (c / 10000) (c / 100 % 100) (c % 100))) Never ≡ At s → Named n c s
+        → pick (both t u) (Some (seconds_of (day_number (n / 10000) (n / 100 % 100) (n % 100)) (c / 10000) (c / 100 % 100) (c % 100))) None ≡ Some s → Named n c s
     by true true p q r = record { date = day _ _ _ p; time = clock _ _ _ q; seconds = cc }
     by true false p q r = absurd (let z : ◌≡◌ {A = ℕ} 0 1 = cc in omega arith)
     by false u p q r = absurd (let z : ◌≡◌ {A = ℕ} 0 1 = cc in omega arith)
@@ -148,12 +148,12 @@ module _ (n c s n' c' s' : ℕ) (w : Named n c s) (v : Named n' c' s') where
       omega (arith, w.seconds, v.seconds)
 
 -- a later date, or the same date and a later time of day, is a later moment
-pub moments_rise : (n c s n' c' s' : ℕ) → moment_at n c ≡ At s → moment_at n' c' ≡ At s' → (n < n') ⊎ ((n ≡ n') × (c < c')) → s < s'
+pub moments_rise : (n c s n' c' s' : ℕ) → moment_at n c ≡ Some s → moment_at n' c' ≡ Some s' → (n < n') ⊎ ((n ≡ n') × (c < c')) → s < s'
 moments_rise n c s n' c' s' e e' h =
     ⊎_elim (later_date n c s n' c' s' (named n c s e) (named n' c' s' e')) (λ p. later_time n c s n' c' s' (named n c s e) (named n' c' s' e') p.0 p.1) h
 
 -- so one number is one date and one time of day
-pub moments_differ : (n c n' c' s : ℕ) → moment_at n c ≡ At s → moment_at n' c' ≡ At s → (n ≡ n') × (c ≡ c')
+pub moments_differ : (n c n' c' s : ℕ) → moment_at n c ≡ Some s → moment_at n' c' ≡ Some s → (n ≡ n') × (c ≡ c')
 moments_differ n c n' c' s e e' =
     let a : n < n' → ⊥ = λ h. let z : s < s = moments_rise n c s n' c' s e e' (inl h) in omega arith in
     let b : n' < n → ⊥ = λ h. let z : s < s = moments_rise n' c' s n c s e' e (inl h) in omega arith in

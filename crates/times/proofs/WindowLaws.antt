@@ -1,4 +1,5 @@
 -- Laws of `specs/Window.antt`. Assumes nothing.
+use Rattle.std.specs.Prelude.{Option, Some}
 use mathlib.Core.Path.{◌≡◌, refl}
 use mathlib.Core.Bool.{Bool, true, false, true≢false}
 use Prim.Native.Nat.{ℕ, ◌+◌, ◌-◌, ◌≤◌, ◌<◌}
@@ -11,8 +12,6 @@ use mir.Syntax.{w64}
 use mir.Val.{SFits, Fits, to_z, of_z}
 use mir.ValLaws.{to_z-of_z}
 use Rattle.times.specs.Window.{apart, reaches, is_within, limit_of}
-use Rattle.times.specs.declared.Moment.{Moment}
-use Rattle.times.specs.declared.Moment.TheVariants.{At, Never}
 
 negative : (z : ℤ) → lt_z z (pos 0) ≡ true → 0 ≡ limit_of z
 unfolding limit_of
@@ -61,16 +60,7 @@ limit_reaches (pos n) d = by (leb d n) refl
     by false e = le-ltb d (n + 1) (omega (arith, leb-false d n e))
 limit_reaches (negsuc n) d = le-ltb d 0 (omega arith)
 
-module _ (a b : Moment) (w : ℤ) where
-  pub first_never : a ≡ Never → false ≡ is_within a b w
-  unfolding is_within
-  first_never e = rw e refl
-
-  module _ (x : ℕ) (e : a ≡ At x) where
-    pub second_never : b ≡ Never → false ≡ is_within a b w
-    unfolding is_within
-    second_never f = rw (e, f) refl
-
-    pub both_moments : (y d l : ℕ) → SFits w64 w → b ≡ At y → d ≡ apart x y → l ≡ limit_of (to_z w64 (of_z w64 w)) → ltb d l ≡ is_within a b w
-    unfolding is_within
-    both_moments y d l s f p q = rw (e, f, p, q, to_z-of_z w64 w s) (limit_reaches w (apart x y))
+pub both_moments : (a b : Option ℕ) (w : ℤ) (x : ℕ) → a ≡ Some x → (y d l : ℕ) → SFits w64 w → b ≡ Some y → d ≡ apart x y
+    → l ≡ limit_of (to_z w64 (of_z w64 w)) → ltb d l ≡ is_within a b w
+unfolding is_within
+both_moments a b w x e y d l s f p q = rw (e, f, p, q, to_z-of_z w64 w s) (limit_reaches w (apart x y))

@@ -4,7 +4,7 @@ use mathlib.Core.Bool.{Bool, true, false}
 use Prim.Native.Nat.{ℕ, zero, suc, ◌+◌, ◌-◌, ◌*◌, ◌/◌, ◌%◌, ◌≤◌}
 use native.Mathlib.Omega.{arith}
 use lib.Dec.{eqb}
-use borrow.Author.Tests.{eqb-true, eqb-false, eq-eqb, ne_eqb}
+use borrow.Author.Tests.{eqb-true, eqb-false}
 use Rattle.text.specs.Pick.{pick}
 use Rattle.times.specs.Calendar.{leap, year_days, days_before_year}
 
@@ -68,17 +68,3 @@ years_are y = less _ _ _ (years_sum y)
 
 pub years_fit : (y : ℕ) → y ≤ 9999 → y * 365 + (y + 3) / 4 + (y + 399) / 400 - (y + 99) / 100 ≤ 3659634
 years_fit y h = omega arith
-
-module _ (year : ℕ) where
-  pub not_fourth : (year % 4 ≡ 0 → ⊥) → false ≡ leap year
-  unfolding leap
-  not_fourth h = simp (ne_eqb (year % 4) 0 h)
-
-  module _ (f : year % 4 ≡ 0) where
-    pub not_hundredth : (year % 100 ≡ 0 → ⊥) → true ≡ leap year
-    unfolding leap
-    not_hundredth h = simp (eq-eqb (year % 4) 0 f, ne_eqb (year % 100) 0 h)
-
-    pub hundredth : year % 100 ≡ 0 → eqb (year % 400) 0 ≡ leap year
-    unfolding leap
-    hundredth h = simp (eq-eqb (year % 4) 0 f, eq-eqb (year % 100) 0 h)

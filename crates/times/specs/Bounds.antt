@@ -1,8 +1,6 @@
 -- What is known of a number that was read.
-use Rattle.std.specs.Prelude.{ℕ, ◌<◌}
-use Rattle.decimal.specs.declared.Unsigned.{Unsigned}
-use Rattle.decimal.specs.declared.Unsigned.TheVariants.{Is, Not}
+use Rattle.std.specs.Prelude.{ℕ, ◌<◌, Option, Some, None}
 
-abbrev pub Below : ℕ → Unsigned → Type 0
-Below b (Is n) = n < b
-Below b Not = Unit
+abbrev pub Below : ℕ → Option ℕ → Type 0
+Below b (Some n) = n < b
+Below b None = Unit

@@ -1,9 +1,8 @@
 -- Worked examples.
-use Rattle.std.specs.Prelude.{◌≡◌, refl, true, false, pos, negsuc}
+use Rattle.std.specs.Prelude.{◌≡◌, refl, true, false, pos, negsuc, Some, None}
 use Rattle.times.specs.Calendar.{leap, month_days, days_before_year, days_before_month, is_day, day_number}
 use Rattle.times.specs.Moments.{is_clock, seconds_of, moment_at}
 use Rattle.times.specs.Window.{apart, reaches, is_within}
-use Rattle.times.specs.declared.Moment.TheVariants.{At, Never}
 
 -- 20240229 is a day, and 20260231 is not; 1900 was no leap year, and 2000 was one
 leap_day : is_day 2024 2 29 ≡ true
@@ -28,28 +27,28 @@ unfolding day_number days_before_year days_before_month month_days leap
 march = refl
 
 -- the hours end at 23
-no_hour : moment_at 101 240000 ≡ Never
+no_hour : moment_at 101 240000 ≡ None
 unfolding moment_at is_day month_days leap is_clock
 no_hour = refl
 
 -- year 0, January 2, 00:00:01
-second_day : moment_at 102 1 ≡ At 86401
+second_day : moment_at 102 1 ≡ Some 86401
 unfolding moment_at is_day month_days leap is_clock seconds_of day_number days_before_year days_before_month
 second_day = refl
 
 -- 1800 seconds apart at a window of 1800 are within, 1801 are not; no moment is within anything, nor is anything in a window below zero
-at_the_end : is_within (At 5000) (At 3200) (pos 1800) ≡ true
+at_the_end : is_within (Some 5000) (Some 3200) (pos 1800) ≡ true
 unfolding is_within reaches apart
 at_the_end = refl
 
-past_the_end : is_within (At 3200) (At 5001) (pos 1800) ≡ false
+past_the_end : is_within (Some 3200) (Some 5001) (pos 1800) ≡ false
 unfolding is_within reaches apart
 past_the_end = refl
 
-never : is_within Never (At 0) (pos 1800) ≡ false
+never : is_within None (Some 0) (pos 1800) ≡ false
 unfolding is_within
 never = refl
 
-below_zero_lem : is_within (At 7) (At 7) (negsuc 0) ≡ false
+below_zero_lem : is_within (Some 7) (Some 7) (negsuc 0) ≡ false
 unfolding is_within reaches
 below_zero_lem = refl

@@ -1,7 +1,5 @@
 -- Two moments are within a window, a signed number of seconds, if the size of their difference is at most the window.
-use Rattle.std.specs.Prelude.{ℕ, ◌+◌, ◌-◌, Bool, false, leb, ℤ, pos, negsuc}
-use Rattle.times.specs.declared.Moment.{Moment}
-use Rattle.times.specs.declared.Moment.TheVariants.{At, Never}
+use Rattle.std.specs.Prelude.{ℕ, ◌+◌, ◌-◌, Bool, false, leb, ℤ, pos, negsuc, Option, Some, None}
 
 -- the size of the difference
 unfoldable pub apart : ℕ → ℕ → ℕ
@@ -12,10 +10,10 @@ unfoldable pub reaches : ℤ → ℕ → Bool
 reaches (pos n) d = leb d n
 reaches (negsuc n) d = false
 
-unfoldable pub is_within : Moment → Moment → ℤ → Bool
-is_within Never b w = false
-is_within (At x) Never w = false
-is_within (At x) (At y) w = reaches w (apart x y)
+unfoldable pub is_within : Option ℕ → Option ℕ → ℤ → Bool
+is_within None b w = false
+is_within (Some x) None w = false
+is_within (Some x) (Some y) w = reaches w (apart x y)
 
 -- one more than the window, and 0 where it is below zero
 unfoldable pub limit_of : ℤ → ℕ

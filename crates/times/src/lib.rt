@@ -6,28 +6,14 @@ ghost use Rattle.times.specs.Calendar.{leap, month_days, days_before_year, days_
 ghost use Rattle.times.specs.Moments.{date_of, clock_of, is_clock, moment_at, moment_by, moment_of, seconds_of, hundredfold};
 ghost use Rattle.times.specs.Bounds.{Below};
 
-use decimal::Unsigned;
-
 pub mod window;
 
-// Seconds since the first day of year 0, or no moment.
-#[derive(Clone, Copy)]
-pub enum Moment {
-    At(u64),
-    Never,
-}
-
 // A leap year of the Gregorian calendar.
+#[tactic(auto, unfolding(crate::specs::Calendar::leap))]
 fn is_leap(year: u32) -> bool
     ensures { result ≡ leap year }
 {
-    if year % 4 != 0 {
-        return false;
-    }
-    if year % 100 != 0 {
-        return true;
-    }
-    year % 400 == 0
+    year % 4 == 0 && (year % 100 != 0 || year % 400 == 0)
 }
 
 // The days before a year from 0 on: 365 a year, and one more for each leap year.
@@ -67,59 +53,53 @@ fn days_before_month(leap: bool, month: u32) -> u32
     }
 }
 
+#[tactic(auto, unfolding(crate::specs::Calendar::is_day))]
 fn is_day(year: u32, month: u32, day: u32) -> bool
     ensures { result ≡ is_day year month day }
 {
-    if month < 1 {
-        return false;
-    }
-    if 12 < month {
-        return false;
-    }
-    text::all(1 <= day, day <= days_of_month(is_leap(year), month))
+    1 <= month && month <= 12 && 1 <= day && day <= days_of_month(is_leap(year), month)
 }
 
+#[tactic(auto, unfolding(crate::specs::Calendar::day_number))]
 fn day_number(year: u32, month: u32, day: u32) -> u32
     requires { (year ≤ 9999) × ((month ≤ 12) × (day ≤ 99)) }
     ensures value { result ≡ day_number year month day }
     ensures upper_bound { result ≤ 3661000 }
 {
     let before = days_before_year(year) + days_before_month(is_leap(year), month);
-    if 0 < day { before + (day - 1) } else { before }
+    before + day.saturating_sub(1)
 }
 
+#[tactic(auto, unfolding(crate::specs::Moments::is_clock))]
 fn is_clock(hour: u32, minute: u32, second: u32) -> bool
     ensures { result ≡ is_clock hour minute second }
 {
-    text::all(hour <= 23, text::all(minute <= 59, second <= 59))
+    hour <= 23 && minute <= 59 && second <= 59
 }
 
 // YYYYMMDD as a number.
-fn date_of(d: &[u8]) -> Unsigned
+fn date_of(d: &[u8]) -> Option<u64>
     ensures value { result ≡ date_of d.now }
     ensures below { Below 100000000 result }
 {
     if d.len() == 8 {
         decimal::parse_digits(d)
     } else {
-        Unsigned::Not
+        None
     }
 }
 
 // HHMM as HHMMSS.
-fn as_seconds(n: Unsigned) -> Unsigned
+fn as_seconds(n: Option<u64>) -> Option<u64>
     requires { Below 1000000 n }
     ensures value { result ≡ hundredfold n }
     ensures below { Below 100000000 result }
 {
-    match n {
-        Unsigned::Is(v) => Unsigned::Is(v * 100),
-        Unsigned::Not => Unsigned::Not,
-    }
+    Some(n? * 100)
 }
 
 // HHMMSS as a number.
-fn clock_of(t: &[u8]) -> Unsigned
+fn clock_of(t: &[u8]) -> Option<u64>
     ensures value { result ≡ clock_of t.now }
     ensures below { Below 100000000 result }
 {
@@ -129,9 +109,10 @@ fn clock_of(t: &[u8]) -> Unsigned
     if t.len() == 6 {
         return decimal::parse_digits(t);
     }
-    Unsigned::Not
+    None
 }
 
+#[tactic(auto, unfolding(crate::specs::Moments::seconds_of))]
 fn seconds(day: u32, hour: u32, minute: u32, second: u32) -> u64
     requires { (day ≤ 3661000) × ((hour ≤ 23) × ((minute ≤ 59) × (second ≤ 59))) }
     ensures { result ≡ seconds_of day hour minute second }
@@ -140,7 +121,8 @@ fn seconds(day: u32, hour: u32, minute: u32, second: u32) -> u64
 }
 
 // The moment of the date and the time of day that two numbers say.
-fn moment_at(date: u32, clock: u32) -> Moment
+#[tactic(auto, unfolding(crate::specs::Moments::moment_at))]
+fn moment_at(date: u32, clock: u32) -> Option<u64>
     requires { date < 100000000 }
     ensures { result ≡ moment_at date clock }
 {
@@ -148,32 +130,27 @@ fn moment_at(date: u32, clock: u32) -> Moment
     let month = date / 100 % 100;
     let day = date % 100;
     if !is_day(year, month, day) {
-        return Moment::Never;
+        return None;
     }
     let hour = clock / 10000;
     let minute = clock / 100 % 100;
     let second = clock % 100;
     if !is_clock(hour, minute, second) {
-        return Moment::Never;
+        return None;
     }
-    Moment::At(seconds(day_number(year, month, day), hour, minute, second))
+    Some(seconds(day_number(year, month, day), hour, minute, second))
 }
 
-fn moment_by(date: Unsigned, clock: Unsigned) -> Moment
+fn moment_by(date: Option<u64>, clock: Option<u64>) -> Option<u64>
     requires { Below 100000000 date × Below 100000000 clock }
     ensures { result ≡ moment_by date clock }
 {
-    match date {
-        Unsigned::Not => Moment::Never,
-        Unsigned::Is(d) => match clock {
-            Unsigned::Not => Moment::Never,
-            Unsigned::Is(c) => moment_at(d as u32, c as u32),
-        },
-    }
+    moment_at(date? as u32, clock? as u32)
 }
 
 // The moment that a date and a time of day name.
-pub fn moment_of(date: &[u8], time: &[u8]) -> Moment
+#[tactic(auto, unfolding(crate::specs::Moments::moment_of))]
+pub fn moment_of(date: &[u8], time: &[u8]) -> Option<u64>
     ensures { result ≡ moment_of date.now time.now }
 {
     moment_by(

@@ -2,8 +2,6 @@
 ghost use Rattle.std.specs.Prelude.{◌≡◌};
 ghost use Rattle.times.specs.Window.{limit_of, apart, is_within};
 
-use super::Moment;
-
 // One more than the window, and 0 where it is below zero: a distance is within the window exactly if it is below this.
 #[tactic(auto, using(crate::proofs::WindowLaws::below_zero_lem, crate::proofs::WindowLaws::casts, crate::proofs::WindowLaws::adds, crate::proofs::WindowLaws::limit_is))]
 pub fn limit_of(window: i64) -> u64
@@ -20,18 +18,16 @@ pub fn limit_of(window: i64) -> u64
 pub fn distance(a: u64, b: u64) -> u64
     ensures { result ≡ apart a b }
 {
-    if a < b { b - a } else { a - b }
+    a.abs_diff(b)
 }
 
 // Both are moments, and their difference is at most the window.
-pub fn within_window(a: Moment, b: Moment, window: i64) -> bool
+#[tactic(auto, unfolding(crate::specs::Window::is_within))]
+pub fn within_window(a: Option<u64>, b: Option<u64>, window: i64) -> bool
     ensures { result ≡ is_within a b window }
 {
-    match a {
-        Moment::Never => false,
-        Moment::At(x) => match b {
-            Moment::Never => false,
-            Moment::At(y) => distance(x, y) < limit_of(window),
-        },
+    match (a, b) {
+        (Some(x), Some(y)) => distance(x, y) < limit_of(window),
+        _ => false,
     }
 }

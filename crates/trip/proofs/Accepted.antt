@@ -1,4 +1,6 @@
 -- Rows that the writer takes are records that can be written and whose names rise. Assumes nothing.
+use Rattle.std.specs.Prelude.{Ok}
+use Rattle.std.specs.declared.cmp.Ordering.TheVariants.{Less}
 use mathlib.Core.Path.{◌≡◌, refl, sym, ap, ◌∙◌}
 use mathlib.Core.Bool.{Bool, true, false, not}
 use mathlib.Core.List.{List, [], ◌∷◌, map}
@@ -16,7 +18,6 @@ use Rattle.text.specs.Space.{trim_start, trim_end, trimmed}
 use Rattle.text.proofs.BoolLaws.{both_left, both_right}
 use Rattle.letters.specs.Capitals.{raised, capitals}
 use Rattle.letters.specs.Order.{order, order_raised}
-use Rattle.letters.specs.declared.Order.TheVariants.{Less}
 use Rattle.letters.proofs.CapitalLaws.{capitals_twice}
 use Rattle.letters.proofs.SpaceLaws.{trim_capitals}
 use Rattle.tags.specs.Tags.{colon, gt, kind_of}
@@ -26,7 +27,6 @@ use Rattle.adif.specs.Grammar.{Field, Without}
 use Rattle.adif.specs.Limits.{Ascending}
 use Rattle.adif.proofs.Cuts.{Split, none, found, split, front_found}
 use Rattle.rowcheck.specs.Check.{Row, record_in, name_in, value_in, sound, lacks, is_field, writable, counted, verdict, check_from, check_of}
-use Rattle.refusals.specs.declared.Verdict.TheVariants.{Accepted}
 use Rattle.rowcheck.proofs.FineLaws.{first_fine, rest_fine, is_sound, is_writable, few_names, few_records, higher, next_number, from_one, counted_on, counted_new}
 use Rattle.writer.specs.Rows.{row_field, ends_before, joined, grouped}
 use Rattle.trip.specs.File.{Good, AllGood, Writable}
@@ -108,7 +108,7 @@ module _ (text : List ℕ) (small : length text < 2 ^ 64) where
         short = omega (arith, length-take (get_or r 4 0) (drop (get_or r 3 0) text), length-drop (get_or r 3 0) text);
       }
 
-  module _ (n c : ℕ) (p r : Row) (v : verdict text n c p r ≡ Accepted) where
+  module _ (n c : ℕ) (p r : Row) (v : verdict text n c p r ≡ Ok tt) where
     row_good : Good (row_field text r)
     row_good = field_good r (is_sound text n c p r v) (is_writable text n c p r v)
 
@@ -153,7 +153,7 @@ module _ (text : List ℕ) (small : length text < 2 ^ 64) where
   all_fit c p [] q = tt
   all_fit c p (g ∷ gs) q = (record { some = q.1; few = q.2.1; fields = q.0 }, q.2.0, q.3)
 
-  module _ (n c : ℕ) (p r : Row) (v : verdict text n c p r ≡ Accepted) where
+  module _ (n c : ℕ) (p r : Row) (v : verdict text n c p r ≡ Ok tt) where
     joins : (b b' : Bool) → ends_before n (r ∷ []) ≡ b → (gs : List (List Row)) → (b' ≡ false → gs ≡ [] → ⊥) → Groups b' (counted n c r) r gs → Groups b c p (joined b' r gs)
     joins true true e gs k q = ((row_good n c p r v, tt), omega arith, ((tt, tt), omega arith), all_fit (counted n c r) r gs q)
     joins false true e gs k q =
@@ -166,7 +166,7 @@ module _ (text : List ℕ) (small : length text < 2 ^ 64) where
         let z : n ≡ record_in r = same_number n c p r v e in
         ((row_good n c p r v, q.0), omega arith, ((rises n c p r v z, q.2.0), omega (arith, q.2.1, counted_on text n c p r v z)), q.3)
 
-  groups : (rs : List Row) (n c : ℕ) (p : Row) → check_from text n c p rs ≡ Accepted → Groups (ends_before n rs) c p (grouped rs)
+  groups : (rs : List Row) (n c : ℕ) (p : Row) → check_from text n c p rs ≡ Ok tt → Groups (ends_before n rs) c p (grouped rs)
   unfolding check_from
   groups [] n c p e = tt
   groups (r ∷ rs) n c p e =
@@ -179,7 +179,7 @@ module _ (text : List ℕ) (small : length text < 2 ^ 64) where
   going true = 0
   going false = 1
 
-  module _ (n c : ℕ) (p r : Row) (v : verdict text n c p r ≡ Accepted) where
+  module _ (n c : ℕ) (p r : Row) (v : verdict text n c p r ≡ Ok tt) where
     tally : (b b' : Bool) → ends_before n (r ∷ []) ≡ b → (gs : List (List Row)) → (b' ≡ false → gs ≡ [] → ⊥) → record_in r + length gs ≤ 65535 + going b'
         → n + length (joined b' r gs) ≤ 65535 + going b
     tally true true e gs k q = omega (arith, next_number text n c p r v (other_number n c p r v e))
@@ -188,23 +188,23 @@ module _ (text : List ℕ) (small : length text < 2 ^ 64) where
     tally true false e (g ∷ gs) k q = omega (arith, next_number text n c p r v (other_number n c p r v e))
     tally false false e (g ∷ gs) k q = omega (arith, same_number n c p r v e)
 
-  records_few : (rs : List Row) (n c : ℕ) (p : Row) → n ≤ 65535 → check_from text n c p rs ≡ Accepted → n + length (grouped rs) ≤ 65535 + going (ends_before n rs)
+  records_few : (rs : List Row) (n c : ℕ) (p : Row) → n ≤ 65535 → check_from text n c p rs ≡ Ok tt → n + length (grouped rs) ≤ 65535 + going (ends_before n rs)
   unfolding check_from
   records_few [] n c p h e = omega arith
   records_few (r ∷ rs) n c p h e =
-      let v : verdict text n c p r ≡ Accepted = first_fine (verdict text n c p r) (check_from text (record_in r) (counted n c r) r rs) e in
+      let v : verdict text n c p r ≡ Ok tt = first_fine (verdict text n c p r) (check_from text (record_in r) (counted n c r) r rs) e in
       tally n c p r v (ends_before n (r ∷ rs)) (ends_before (record_in r) rs) refl (grouped rs) (goes_on_lem (record_in r) rs)
       (records_few rs (record_in r) (counted n c r) r (few_records text n c p r v) (rest_fine (verdict text n c p r) (check_from text (record_in r) (counted n c r) r rs) e))
 
   -- a first row never goes on with record 0
-  starts : (rs : List Row) (c : ℕ) (p : Row) → check_from text 0 c p rs ≡ Accepted → ends_before 0 rs ≡ true
+  starts : (rs : List Row) (c : ℕ) (p : Row) → check_from text 0 c p rs ≡ Ok tt → ends_before 0 rs ≡ true
   unfolding check_from
   starts [] c p e = refl
   starts (r ∷ rs) c p e =
       let z : 0 < record_in r = from_one text 0 c p r (first_fine (verdict text 0 c p r) (check_from text (record_in r) (counted 0 c r) r rs) e) in
       rw (ne_eqb 0 (record_in r) (λ y. omega arith)) refl
 
-  pub accepted : (rs : List Row) → check_of text rs ≡ Accepted → AllFit (grouped rs) × (length (grouped rs) ≤ 65535)
+  pub accepted : (rs : List Row) → check_of text rs ≡ Ok tt → AllFit (grouped rs) × (length (grouped rs) ≤ 65535)
   unfolding check_of
   accepted rs e =
       let Z : Row = 0 ∷ 0 ∷ 0 ∷ 0 ∷ 0 ∷ [] in

@@ -1,5 +1,6 @@
 -- What may stand in front of records: the journal's header, an export's header, and a station's fields, which join the first record.
 -- Assumes nothing.
+use Rattle.std.specs.declared.cmp.Ordering.TheVariants.{Less}
 use mathlib.Core.Path.{◌≡◌, refl, sym, ap, ◌∙◌}
 use mathlib.Core.Bool.{Bool, true, false}
 use mathlib.Core.List.{List, [], ◌∷◌, ◌++◌, append_assoc}
@@ -15,7 +16,6 @@ use Rattle.text.proofs.BoolLaws.{both_left, both_right}
 use Rattle.letters.specs.Capitals.{raised, capitals}
 use Rattle.letters.specs.Same.{same_raised}
 use Rattle.letters.specs.Order.{order}
-use Rattle.letters.specs.declared.Order.TheVariants.{Less}
 use Rattle.letters.proofs.OrderLaws.{order_trans}
 use Rattle.letters.proofs.CapitalLaws.{capitals_twice}
 use Rattle.letters.proofs.SpaceLaws.{trim_capitals}

@@ -1,4 +1,5 @@
 -- A length in decimal has no white space at its ends, no colon, no ">", and is ASCII; so a tag's length reads back. Assumes nothing.
+use Rattle.std.specs.Prelude.{Some}
 use mathlib.Core.Path.{◌≡◌, refl}
 use mathlib.Core.Bool.{false}
 use mathlib.Core.List.{List, [], ◌∷◌, reverse, reverse_aux}
@@ -15,7 +16,6 @@ use Rattle.text.proofs.AppendLaws.{Ascii}
 use Rattle.text.proofs.BoolLaws.{both_no}
 use Rattle.decimal.specs.Decimal.{unsigned_of}
 use Rattle.decimal.specs.Digits.{decimal}
-use Rattle.decimal.specs.declared.Unsigned.TheVariants.{Is}
 use Rattle.decimal.proofs.ReadBack.{Digits, are_digits, digits_ascii, read_back_lem}
 use Rattle.tags.specs.Tags.{gt, colon}
 use Rattle.adif.specs.Grammar.{Without}
@@ -72,7 +72,7 @@ module _ (n : ℕ) where
   unfolding decimal
   decimal_digits = are_digits 20 n
 
-  pub decimal_read : n < 2 ^ 64 → unsigned_of (trimmed (decimal n)) ≡ Is n
+  pub decimal_read : n < 2 ^ 64 → unsigned_of (trimmed (decimal n)) ≡ Some n
   decimal_read h = rw (trim_digits (decimal n) decimal_digits) (read_back_lem n h)
 
   pub decimal_colon : Without colon (decimal n)

@@ -1,5 +1,7 @@
 -- The items of records mean those records, each gathered by its names; and a record whose names rise is gathered as it is. Assumes
 -- nothing.
+use Rattle.std.specs.declared.cmp.Ordering.{Ordering}
+use Rattle.std.specs.declared.cmp.Ordering.TheVariants.{Less, Equal, Greater}
 use mathlib.Core.Path.{◌≡◌, refl, ◌∙◌}
 use mathlib.Core.List.{List, [], ◌∷◌, ◌++◌, append-nil}
 use Prim.Native.Nat.{ℕ, suc, ◌+◌, ◌≤◌, ◌<◌}
@@ -9,8 +11,6 @@ use lib.ListN.{length, length-append}
 use lib.Seq.{append_snoc}
 use borrow.Author.Tests.{le-leb, lt-ltb}
 use Rattle.letters.specs.Order.{order}
-use Rattle.letters.specs.declared.Order.{Order}
-use Rattle.letters.specs.declared.Order.TheVariants.{Less, Equal, Greater}
 use Rattle.letters.proofs.OrderLaws.{order_trans, order_flip}
 use Rattle.adif.specs.Records.{eoh, eor, records, on, total, close, finish, placed, put, Ending, whole, meaning}
 use Rattle.adif.specs.Grammar.{Field, Why, plain, Items}
@@ -23,7 +23,7 @@ abbrev pub named : Field → List ℕ
 named f = f.name
 
 -- ---- a field more makes a record at most one longer
-placed_length : (f x : Field) (xs rest : List Field) (o : Order) → length rest ≤ suc (length xs) → length (placed o f x xs rest) ≤ suc (length (x ∷ xs))
+placed_length : (f x : Field) (xs rest : List Field) (o : Ordering) → length rest ≤ suc (length xs) → length (placed o f x xs rest) ≤ suc (length (x ∷ xs))
 placed_length f x xs rest Less h = omega arith
 placed_length f x xs rest Equal h = omega arith
 placed_length f x xs rest Greater h = omega arith
@@ -32,7 +32,7 @@ put_length : (f : Field) (xs : List Field) → length (put named f xs) ≤ suc (
 put_length f [] = omega arith
 put_length f (x ∷ xs) = placed_length f x xs (put named f xs) (order (named f) (named x)) (put_length f xs)
 
-placed_some : (f x : Field) (xs rest : List Field) (o : Order) → 0 < length (placed o f x xs rest)
+placed_some : (f x : Field) (xs rest : List Field) (o : Ordering) → 0 < length (placed o f x xs rest)
 placed_some f x xs rest Less = omega arith
 placed_some f x xs rest Equal = omega arith
 placed_some f x xs rest Greater = omega arith

@@ -1,4 +1,6 @@
 -- The round trip of the code: from the writer's promise, and a reading that is what the reader's promise says. Assumes nothing.
+use Rattle.std.specs.Prelude.{Result, Ok, Err}
+use Rattle.refusals.specs.declared.Refusal.{Refusal}
 use mathlib.Core.Path.{◌≡◌, refl, sym, ap, ◌∙◌}
 use mathlib.Core.Bool.{true}
 use mathlib.Core.List.{List, ◌++◌}
@@ -14,9 +16,6 @@ use Rattle.adif.specs.Records.{records, total}
 use Rattle.adif.specs.Reading.{RowsRead, read_text}
 use Rattle.refusals.specs.Written.{fitted}
 use Rattle.refusals.specs.declared.Refusal.TheVariants.{TooLong, BadRow}
-use Rattle.refusals.specs.declared.Verdict.TheVariants.{Accepted}
-use Rattle.refusals.specs.declared.Written.{Written}
-use Rattle.refusals.specs.declared.Written.TheVariants.{Bytes, Unwritten}
 use Rattle.refusals.proofs.WrittenLaws.{passed, fits}
 use Rattle.rowcheck.specs.Check.{check_of}
 use Rattle.writer.specs.Rows.{rows_of, rows_text, records_of}
@@ -38,26 +37,26 @@ take_set l w h = rw (front_set l w h) (take_at w (drop (length w) l) (length w) 
 drop_set : (l w : List ℕ) → length w ≤ length l → drop (length w) (sets l 0 w) ≡ drop (length w) l
 drop_set l w h = rw (front_set l w h) (drop_at w (drop (length w) l) (length w) refl)
 
-module _ (text table : List ℕ) (count : ℕ) (was : List ℕ) (answer : Written) (out : List ℕ)
-    (a : answer ≡ answer_of text table count (length was)) (o : out ≡ output_of text table count was) (n : ℕ) (wrote : answer ≡ Bytes n) where
-  is : answer_of text table count (length was) ≡ Bytes n
+module _ (text table : List ℕ) (count : ℕ) (was : List ℕ) (answer : Result ℕ Refusal) (out : List ℕ)
+    (a : answer ≡ answer_of text table count (length was)) (o : out ≡ output_of text table count was) (n : ℕ) (wrote : answer ≡ Ok n) where
+  is : answer_of text table count (length was) ≡ Ok n
   is = sym a ∙ wrote
 
-  abbrev rows_fit : Written
+  abbrev rows_fit : Result ℕ Refusal
   rows_fit = fitted (checked_of text (rows_of table count)) (length was)
 
-  first : (leb (length text) 16777216 ≡ true) × (pick (leb count (length table / 5)) rows_fit (Unwritten BadRow) ≡ Bytes n)
+  first : (leb (length text) 16777216 ≡ true) × (pick (leb count (length table / 5)) rows_fit (Err BadRow) ≡ Ok n)
   unfolding answer_of
-  first = passed n (leb (length text) 16777216) (pick (leb count (length table / 5)) rows_fit (Unwritten BadRow)) TooLong is
+  first = passed n (leb (length text) 16777216) (pick (leb count (length table / 5)) rows_fit (Err BadRow)) TooLong is
 
-  second : (checked_of text (rows_of table count) ≡ Bytes n) × (n ≤ 16777216) × (n ≤ length was)
+  second : (checked_of text (rows_of table count) ≡ Ok n) × (n ≤ 16777216) × (n ≤ length was)
   second = fits n (checked_of text (rows_of table count)) (length was) (passed n (leb count (length table / 5)) rows_fit BadRow first.1).1
 
-  checked : (check_of text (rows_of table count) ≡ Accepted) × (n ≡ length (rows_text text (rows_of table count)))
+  checked : (check_of text (rows_of table count) ≡ Ok tt) × (n ≡ length (rows_text text (rows_of table count)))
   unfolding checked_of
   checked = sized (check_of text (rows_of table count)) (length (rows_text text (rows_of table count))) n second.0
 
-  pub taken : check_of text (rows_of table count) ≡ Accepted
+  pub taken : check_of text (rows_of table count) ≡ Ok tt
   taken = checked.0
 
   size_is : n ≡ length (rows_text text (rows_of table count))

@@ -1,4 +1,5 @@
 -- The round trip with a station's fields in front of the records: they join the first. Assumes nothing.
+use Rattle.std.specs.Prelude.{Ok}
 use mathlib.Core.Path.{◌≡◌, refl, sym, ap, ◌∙◌}
 use mathlib.Core.Bool.{true}
 use mathlib.Core.List.{List, [], ◌∷◌, ◌++◌, append_assoc}
@@ -9,7 +10,6 @@ use Rattle.adif.specs.Records.{records, total}
 use Rattle.adif.specs.Grammar.{Field}
 use Rattle.adif.specs.Limits.{Ascending}
 use Rattle.adif.specs.Reading.{read_text}
-use Rattle.refusals.specs.declared.Verdict.TheVariants.{Accepted}
 use Rattle.fields.specs.Written.{fields_text, record_text}
 use Rattle.rowcheck.specs.Check.{Row, check_of}
 use Rattle.writer.specs.Rows.{rows_text, records_of}
@@ -22,7 +22,7 @@ use Rattle.trip.proofs.Trip.{Fits, rows_fit, rows_few, no_comment, between, betw
 use Rattle.trip.proofs.Fronts.{fields_join, good_join, station_good}
 
 -- fields fs that can be written, in front of rows that the writer takes and that stand for the records r and rs
-module _ (fs : List Field) (g : AllGood fs) (text : List ℕ) (small : length text < 2 ^ 64) (rows : List Row) (ok : check_of text rows ≡ Accepted)
+module _ (fs : List Field) (g : AllGood fs) (text : List ℕ) (small : length text < 2 ^ 64) (rows : List Row) (ok : check_of text rows ≡ Ok tt)
     (r : List Field) (rs : List (List Field)) (first : records_of text rows ≡ r ∷ rs) (narrow : length fs + length r ≤ 256) (front : Front) (b : Fit front) where
   all_fit : Fits (r ∷ rs)
   all_fit = rw first at (rows_fit text small rows ok)
@@ -64,7 +64,7 @@ module _ (fs : List Field) (g : AllGood fs) (text : List ℕ) (small : length te
 -- name, where a field of the record wins over the station's of that name
 module _ (call grid name state county cq itu : List ℕ)
     (short : (length call < 2 ^ 64) × (length grid < 2 ^ 64) × (length name < 2 ^ 64) × (length state < 2 ^ 64) × (length county < 2 ^ 64) × (length cq < 2 ^ 64) × (length itu < 2 ^ 64))
-    (texts : all7 call grid name state county cq itu ≡ true) (text : List ℕ) (small : length text < 2 ^ 64) (rows : List Row) (ok : check_of text rows ≡ Accepted)
+    (texts : all7 call grid name state county cq itu ≡ true) (text : List ℕ) (small : length text < 2 ^ 64) (rows : List Row) (ok : check_of text rows ≡ Ok tt)
     (r : List Field) (rs : List (List Field)) (first : records_of text rows ≡ r ∷ rs) (front : Front) (b : Fit front) where
   abbrev station : List Field
   station = station_fields call grid name state county cq itu

@@ -1,5 +1,6 @@
 -- The round trip: rows that the writer takes, written one record after the other, with or without a header in front, and with comments
 -- before, between and after, read back as the records of those rows. Assumes nothing.
+use Rattle.std.specs.Prelude.{Ok}
 use mathlib.Core.Path.{◌≡◌, refl, sym, ap, ◌∙◌}
 use mathlib.Core.List.{List, [], ◌∷◌, ◌++◌, map}
 use Prim.Native.Nat.{ℕ, suc, ◌^◌, ◌≤◌, ◌<◌}
@@ -11,7 +12,6 @@ use Rattle.adif.specs.Grammar.{Field, Says}
 use Rattle.adif.specs.Limits.{Ascending}
 use Rattle.adif.specs.Reading.{read_text}
 use Rattle.rowcheck.specs.Check.{Row, check_of}
-use Rattle.refusals.specs.declared.Verdict.TheVariants.{Accepted}
 use Rattle.writer.specs.Rows.{row_field, rows_text, grouped, records_of}
 use Rattle.trip.specs.File.{Comment, Front, bare, front_text, Fit, Records, file_text, Writable, AllWritable, gathered, read_as}
 use Rattle.trip.proofs.Says.{file_says, front_items, all_items}
@@ -83,7 +83,7 @@ module _ (rs : List (List Field)) (w : Fits rs) (few : length rs ≤ 65535) (fro
       read_back_lem front b (between gs rs) (between_writable gs c rs w) last l (rw (between_length gs rs) few) room (rw (between_read gs rs w) h) n
       ∙ ap records (between_read gs rs w)
 
-module _ (text : List ℕ) (small : length text < 2 ^ 64) (rows : List Row) (ok : check_of text rows ≡ Accepted) where
+module _ (text : List ℕ) (small : length text < 2 ^ 64) (rows : List Row) (ok : check_of text rows ≡ Ok tt) where
   pub rows_fit : Fits (records_of text rows)
   rows_fit = fits text small (grouped rows) (accepted text small rows ok).0
 
@@ -110,7 +110,7 @@ module _ (text : List ℕ) (small : length text < 2 ^ 64) (rows : List Row) (ok 
     written_says = rw together (records_say (records_of text rows) rows_fit rows_few front b [] tt [] no_comment)
 
 -- two lists of rows that the writer takes and that stand for different records give different texts
-pub no_two : (text text' : List ℕ) → length text < 2 ^ 64 → length text' < 2 ^ 64 → (rows rows' : List Row) → check_of text rows ≡ Accepted → check_of text' rows' ≡ Accepted
+pub no_two : (text text' : List ℕ) → length text < 2 ^ 64 → length text' < 2 ^ 64 → (rows rows' : List Row) → check_of text rows ≡ Ok tt → check_of text' rows' ≡ Ok tt
     → rows_text text rows ≡ rows_text text' rows' → records_of text rows ≡ records_of text' rows'
 no_two text text' s s' rows rows' ok ok' e =
     let A : List (List Field) = records_of text rows in

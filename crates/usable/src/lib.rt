@@ -8,6 +8,7 @@ ghost use Rattle.usable.specs.Reasons.{reason_by};
 
 // The reason of a record with this call, date and time, or 0: `blank_mode` where its mode is blank, `inexact` where the mapping refused a
 // frequency.
+// Kept: a number and no Result, since the plan's table holds it as one of its numbers, for C.
 pub fn check(call: &[u8], date: &[u8], time: &[u8], blank_mode: bool, inexact: bool) -> u32
     ensures { result ≡ reason_by (blank call.now) (is_date (trimmed date.now)) (is_time (trimmed time.now)) blank_mode inexact }
 {

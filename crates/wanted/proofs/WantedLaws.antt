@@ -1,4 +1,5 @@
 -- The code of a key does not see names and capitals; a contact's places stand for its texts. Assumes nothing.
+use Rattle.std.specs.Prelude.{Option}
 use mathlib.Core.Path.{◌≡◌, refl, ◌∙◌}
 use mathlib.Core.Bool.{true, false}
 use mathlib.Core.List.{List}
@@ -13,7 +14,6 @@ use Rattle.tables.specs.Place.{stands, in_text, part, value, bytes, name_of}
 use Rattle.tables.specs.declared.Place.{Place}
 use Rattle.tables.specs.declared.Name.{Name}
 use Rattle.times.specs.Moments.{moment_of}
-use Rattle.times.specs.declared.Moment.{Moment}
 use Rattle.contacts.specs.Lists.{text_at, after, call_at, date_at, time_at, band_at, mode_at}
 use Rattle.index.specs.Rows.{code_of}
 use Rattle.dedupe.specs.Views.{cased}
@@ -60,7 +60,7 @@ unfolding key_at
 key_is s call mode band c m b ec em eb = rw (ec, em, eb) refl
 
 -- ---- the texts of a contact
-pub wanted_is : (s : List ℕ) (at date time band mode : ℕ) (d t : List ℕ) (moment : Moment) (key : Key) → date ≡ after s (at + 11) → time ≡ after s date → band ≡ after s time → mode ≡ after s band
+pub wanted_is : (s : List ℕ) (at date time band mode : ℕ) (d t : List ℕ) (moment : Option ℕ) (key : Key) → date ≡ after s (at + 11) → time ≡ after s date → band ≡ after s time → mode ≡ after s band
     → d ≡ text_at s date → t ≡ text_at s time → moment ≡ moment_of d t → key ≡ key_at s (at + 11) mode band → (record { key = key; moment = moment }) ≡ wanted_at s at
 unfolding wanted_at call_at date_at time_at band_at mode_at
 wanted_is s at date time band mode d t moment key ed et eb em edd ett en ek = rw (ek, en, edd, ett, em, eb, et, ed) refl

@@ -1,4 +1,5 @@
 -- The writer's answers, and the output with each. Assumes nothing.
+use Rattle.std.specs.Prelude.{⊤, Result, Ok, Err}
 use mathlib.Core.Path.{◌≡◌, refl, sym, ◌∙◌}
 use mathlib.Core.List.{List}
 use Prim.Native.Nat.{ℕ, ◌*◌, ◌/◌, ◌≤◌, ◌<◌}
@@ -8,34 +9,23 @@ use borrow.Author.Tests.{le-leb, lt-leb}
 use Rattle.refusals.specs.Written.{fitted}
 use Rattle.refusals.specs.declared.Refusal.{Refusal}
 use Rattle.refusals.specs.declared.Refusal.TheVariants.{TooLong, BadRow}
-use Rattle.refusals.specs.declared.Verdict.{Verdict}
-use Rattle.refusals.specs.declared.Verdict.TheVariants.{Accepted, Refused}
-use Rattle.refusals.specs.declared.Written.{Written}
-use Rattle.refusals.specs.declared.Written.TheVariants.{Bytes, Unwritten}
 use Rattle.refusals.proofs.WrittenLaws.{fits}
 use Rattle.rowcheck.specs.Check.{check_of}
 use Rattle.output.specs.Put.{Put, Room}
 use Rattle.writer.specs.Rows.{rows_of, rows_text}
 use Rattle.writer.specs.Answer.{sized_by, checked_of, answer_of, output_of}
 
-module _ (v : Verdict) (n : ℕ) where
-  pub sized_accepted : v ≡ Accepted → Bytes n ≡ sized_by v n
-  sized_accepted e = rw e refl
-
-  pub sized_refused : (why : Refusal) → v ≡ Refused why → Unwritten why ≡ sized_by v n
-  sized_refused why e = rw e refl
-
-pub sized : (v : Verdict) (m n : ℕ) → sized_by v m ≡ Bytes n → (v ≡ Accepted) × (n ≡ m)
-sized Accepted m n e = (refl, cc)
-sized (Refused why) m n e = absurd (let z : ◌≡◌ {A = ℕ} 0 1 = cc in omega arith)
+pub sized : (v : Result ⊤ Refusal) (m n : ℕ) → sized_by v m ≡ Ok n → (v ≡ Ok tt) × (n ≡ m)
+sized (Ok tt) m n e = (refl, cc)
+sized (Err why) m n e = absurd (let z : ◌≡◌ {A = ℕ} 0 1 = cc in omega arith)
 
 module _ (text t : List ℕ) (count : ℕ) (was : List ℕ) where
   -- a refusal leaves the output as it was
-  quiet : (why : Refusal) → answer_of text t count (length was) ≡ Unwritten why → was ≡ output_of text t count was
+  quiet : (why : Refusal) → answer_of text t count (length was) ≡ Err why → was ≡ output_of text t count was
   unfolding output_of
   quiet why a = sym (rw a refl)
 
-  pub long_text : 16777216 < length text → Unwritten TooLong ≡ answer_of text t count (length was)
+  pub long_text : 16777216 < length text → Err TooLong ≡ answer_of text t count (length was)
   unfolding answer_of
   long_text h = rw (lt-leb (length text) 16777216 h) refl
 
@@ -43,14 +33,14 @@ module _ (text t : List ℕ) (count : ℕ) (was : List ℕ) where
   long_text_out h = quiet TooLong (sym (long_text h))
 
   module _ (l : length text ≤ 16777216) where
-    pub many_rows : length t / 5 < count → Unwritten BadRow ≡ answer_of text t count (length was)
+    pub many_rows : length t / 5 < count → Err BadRow ≡ answer_of text t count (length was)
     unfolding answer_of
     many_rows h = rw (le-leb (length text) 16777216 l, lt-leb count (length t / 5) h) refl
 
     pub many_rows_out : length t / 5 < count → was ≡ output_of text t count was
     many_rows_out h = quiet BadRow (sym (many_rows h))
 
-    module _ (b : count ≤ length t / 5) (k : Written) (ek : k ≡ checked_of text (rows_of t count)) (f : Written) (ef : f ≡ fitted k (length was)) where
+    module _ (b : count ≤ length t / 5) (k : Result ℕ Refusal) (ek : k ≡ checked_of text (rows_of t count)) (f : Result ℕ Refusal) (ef : f ≡ fitted k (length was)) where
       pub in_table : count * 5 ≤ length t
       in_table = omega arith
 
@@ -58,15 +48,15 @@ module _ (text t : List ℕ) (count : ℕ) (was : List ℕ) where
       unfolding answer_of
       answer = rw (le-leb (length text) 16777216 l, le-leb count (length t / 5) b, ← ek) (sym ef)
 
-      module _ (why : Refusal) (e : f ≡ Unwritten why) where
-        pub unfit : Unwritten why ≡ answer_of text t count (length was)
+      module _ (why : Refusal) (e : f ≡ Err why) where
+        pub unfit : Err why ≡ answer_of text t count (length was)
         unfit = sym (answer ∙ e)
 
         pub unfit_out : was ≡ output_of text t count was
         unfit_out = quiet why (answer ∙ e)
 
-      module _ (n : ℕ) (e : f ≡ Bytes n) where
-        measured : (k ≡ Bytes n) × (n ≤ 16777216) × (n ≤ length was)
+      module _ (n : ℕ) (e : f ≡ Ok n) where
+        measured : (k ≡ Ok n) × (n ≤ 16777216) × (n ≤ length was)
         measured = fits n k (length was) (sym ef ∙ e)
 
         size_is : n ≡ length (rows_text text (rows_of t count))
@@ -78,7 +68,7 @@ module _ (text t : List ℕ) (count : ℕ) (was : List ℕ) where
         room = omega (arith, size_is, measured.2)
 
         module _ (r : ℕ) (now : List ℕ) (p : Put r was now 0 (rows_text text (rows_of t count))) where
-          pub done : Bytes r ≡ answer_of text t count (length was)
+          pub done : Ok r ≡ answer_of text t count (length was)
           unfolding Put
           done =
               let z : r ≡ n = omega (arith, p.0, size_is) in

@@ -1,12 +1,11 @@
 -- Rows of a table, one after the other: their text, put and measured. Assumes nothing.
 use mathlib.Core.Path.{◌≡◌, refl, ap, ◌∙◌}
-use mathlib.Core.Bool.{Bool, true, false, not}
+use mathlib.Core.Bool.{Bool, true, false}
 use mathlib.Core.List.{List, [], ◌∷◌, ◌++◌, append-nil}
 use Prim.Native.Nat.{ℕ, suc, ◌+◌, ◌-◌, ◌≤◌, ◌<◌}
 use native.Mathlib.Nat.{sub-zero}
 use native.Mathlib.Omega.{arith}
 use lib.ListN.{length, get_or, drop, length-append, length-take, length-drop}
-use lib.Dec.{eqb}
 use Rattle.adif.specs.Reading.{part}
 use Rattle.fields.specs.Written.{field_text, end_of_record}
 use Rattle.fields.specs.Parts.{field_as}
@@ -26,16 +25,6 @@ module _ (t : List ℕ) (count i : ℕ) (h : i < count) where
       let e : count - i ≡ suc (count - (i + 1)) = omega arith in
       let f : i + 1 ≡ suc i = omega arith in
       rw (e, f) refl
-
-  pub ends_last : (n : ℕ) → i + 1 ≡ count → true ≡ ends_before n rest
-  ends_last n e =
-      let z : count - (i + 1) ≡ 0 = omega arith in
-      rw z refl
-
-  pub ends_more : (a b : ℕ) → (i + 1 ≡ count → ⊥) → a ≡ record_in (row_at t i) → b ≡ record_in (row_at t (i + 1)) → not (eqb a b) ≡ ends_before (record_in (row_at t i)) rest
-  ends_more a b n ea eb =
-      let z : count - (i + 1) ≡ suc (count - (i + 1) - 1) = omega arith in
-      rw (z, ← ea, ← eb) refl
 
 -- from the last row to the first
 pub row_before : (t : List ℕ) (first count i : ℕ) → 0 < i → i ≤ count

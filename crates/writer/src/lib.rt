@@ -6,19 +6,9 @@ ghost use Rattle.rowcheck.specs.Check.{record_in};
 ghost use Rattle.fields.specs.Written.{field_text};
 ghost use Rattle.output.specs.Put.{Put, Room};
 ghost use Rattle.writer.specs.Rows.{row_at, rows_from, rows_of, row_field, ends_before, end_text, rows_text};
-ghost use Rattle.writer.specs.Answer.{sized_by, checked_of, answer_of, output_of};
+ghost use Rattle.writer.specs.Answer.{checked_of, answer_of, output_of};
 
-use refusals::{Refusal, Verdict, Written};
-
-// The size of the rows' text, or why it is not written.
-fn sized_by(v: Verdict, size: usize) -> Written
-    ensures { result ≡ sized_by v size }
-{
-    match v {
-        Verdict::Accepted => Written::Bytes(size),
-        Verdict::Refused(why) => Written::Unwritten(why),
-    }
-}
+use refusals::Refusal;
 
 // The row i.
 pub fn row_at(table: &[u32], i: usize) -> [u32; 5]
@@ -48,10 +38,7 @@ fn ends_at(table: &[u32], count: usize, i: usize) -> bool
     ensures { result ≡ ends_before (record_in (row_at table.now i)) (rows_from table.now (i + 1) (count - (i + 1))) }
 {
     let j = i + 1;
-    if j == count {
-        return true;
-    }
-    record_at(table, i) != record_at(table, j)
+    j == count || record_at(table, i) != record_at(table, j)
 }
 
 // The length of a row's text, and of the record's end where it ends there.
@@ -68,29 +55,23 @@ fn row_size(text: &[u8], row: [u32; 5], ends: bool) -> usize
 }
 
 // All rows are checked, and their text is measured.
-fn check_rows(text: &[u8], table: &[u32], count: usize) -> Written
+fn check_rows(text: &[u8], table: &[u32], count: usize) -> Result<usize, Refusal>
     requires { (length text.now ≤ 16777216) × (count * 5 ≤ length table.now) }
     ensures { result ≡ checked_of text.now (rows_of table.now count) }
 {
-    let mut n: u32 = 0;
-    let mut c: usize = 0;
-    let mut p = [0u32; 5];
-    let mut size: usize = 0;
-    let mut i = 0;
-    while i < count {
+    let mut n = 0;
+    let mut c = 0;
+    let mut p = [0; 5];
+    let mut size = 0;
+    for i in 0..count {
         let row = row_at(table, i);
-        let v = rowcheck::verdict_of(text, n, c, p, row);
-        if !rowcheck::is_fine(v) {
-            return sized_by(v, 0);
-        }
-        let ends = ends_at(table, count, i);
-        size += row_size(text, row, ends);
+        rowcheck::verdict_of(text, n, c, p, row)?;
+        size += row_size(text, row, ends_at(table, count, i));
         c = rowcheck::count_with(n, c, row);
         n = rowcheck::record_of(row);
         p = row;
-        i += 1;
     }
-    Written::Bytes(size)
+    Ok(size)
 }
 
 fn put_row(out: &mut [u8], at: usize, text: &[u8], row: [u32; 5], ends: bool) -> usize
@@ -114,30 +95,23 @@ fn put_rows(out: &mut [u8], text: &[u8], table: &[u32], count: usize) -> usize
     ensures { Put result out.old out.new 0 (rows_text text.now (rows_of table.now count)) }
 {
     let mut at = 0;
-    let mut i = 0;
-    while i < count {
-        let row = row_at(table, i);
-        let ends = ends_at(table, count, i);
-        at = put_row(out, at, text, row, ends);
-        i += 1;
+    for i in 0..count {
+        at = put_row(out, at, text, row_at(table, i), ends_at(table, count, i));
     }
     at
 }
 
 // The text of the first `count` rows of the table goes to the output.
-pub fn write(text: &[u8], table: &[u32], count: usize, out: &mut [u8]) -> Written
+pub fn write(text: &[u8], table: &[u32], count: usize, out: &mut [u8]) -> Result<usize, Refusal>
     ensures value { result ≡ answer_of text.now table.now count (length out.old) }
     ensures out_after { out.new ≡ output_of text.now table.now count out.old }
 {
     if refusals::LONGEST < text.len() {
-        return Written::Unwritten(Refusal::TooLong);
+        return Err(Refusal::TooLong);
     }
     if table.len() / 5 < count {
-        return Written::Unwritten(Refusal::BadRow);
+        return Err(Refusal::BadRow);
     }
-    let fits = refusals::fit(check_rows(text, table, count), out.len());
-    match fits {
-        Written::Unwritten(why) => Written::Unwritten(why),
-        Written::Bytes(_) => Written::Bytes(put_rows(out, text, table, count)),
-    }
+    refusals::fit(check_rows(text, table, count), out.len())?;
+    Ok(put_rows(out, text, table, count))
 }

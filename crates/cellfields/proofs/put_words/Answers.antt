@@ -13,8 +13,11 @@ put_raised-requires c = search raised_room
 pub returns-then-p-eq2 : goal.returns-then-p-eq2
 returns-then-p-eq2 c = search raised_put
 
-pub put_spelled-requires : goal.put_spelled-requires
-put_spelled-requires c = (search entry_fits, search entry_room)
+pub shared_ref_as_front-spelled : goal.shared_ref_as_front-spelled
+shared_ref_as_front-spelled c = search entry_fits
+
+pub put_bytes-requires-2 : goal.put_bytes-requires-2
+put_bytes-requires-2 c = search entry_room
 
 pub returns : goal.returns
 returns c = search entry_put

@@ -1,11 +1,8 @@
 use Rattle.confirmations.specs.Heard.{heard_of}
 use mathlib.Core.Path.{◌≡◌}
-use Prim.Native.Nat.{◌≤◌, ◌+◌, ◌-◌}
+use Prim.Native.Nat.{◌+◌, ◌-◌}
 use Rattle.writer.specs.Rows.{rows_from}
 use Rattle.confirmations.proofs.heard_in.Given as goal
 
 abbrev pub invariant-loop-i : goal.invariant-loop-i
-invariant-loop-i l = (l.i ≤ l.count) × (l.heard ≡ heard_of l.text (rows_from l.table (l.first + l.i) (l.count - l.i)))
-
-abbrev pub decreases-loop-i : goal.decreases-loop-i
-decreases-loop-i l = l.i
+invariant-loop-i l = l.heard ≡ heard_of l.text (rows_from l.table (l.first + l.i) (l.count - l.i))

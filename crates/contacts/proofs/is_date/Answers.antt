@@ -1,8 +1,9 @@
 use Rattle.contacts.proofs.EntryLaws.{no_date, date_is}
+use borrow.Author.Rules.{rules}
 use Rattle.contacts.proofs.is_date.Goals as goal
 
-pub returns-then-d-ne8 : goal.returns-then-d-ne8
-returns-then-d-ne8 c = search no_date
+pub returns-then-d-eq-DATE : goal.returns-then-d-eq-DATE
+returns-then-d-eq-DATE c = search (rules, date_is)
 
-pub returns : goal.returns
-returns c = search date_is
+pub returns-else-d-eq-DATE : goal.returns-else-d-eq-DATE
+returns-else-d-eq-DATE c = search (rules, no_date)

@@ -1,15 +1,14 @@
-use Rattle.contacts.proofs.ListLaws.{fresh_refused, stale_count, stale_largest, fresh_both}
-use borrow.Author.Rules.{rules}
+use mathlib.Core.Path.{sym, ◌∙◌}
+use mathlib.Core.Bool.{true, false}
+use Rattle.std.proofs.lemmas.Result.{err_from_is_err_and}
+use Rattle.contacts.proofs.ListLaws.{fresh_refused, fresh_is}
 use Rattle.contacts.proofs.is_fresh.Goals as goal
 
-pub returns-then-contacts-count : goal.returns-then-contacts-count
-returns-then-contacts-count c = search (rules, stale_count)
+pub returns-in_err-check : goal.returns-in_err-check
+returns-in_err-check c = let p = err_from_is_err_and c.from_residual.result c.from_residual.ensures.1 in rw (p.1, p.2) (fresh_refused _ _ _ _ (sym c.check.ensures.value ∙ c.in_err-check.was))
 
-pub returns-then-largest-top : goal.returns-then-largest-top
-returns-then-largest-top c = search (rules, stale_largest)
+pub returns-then-ne : goal.returns-then-ne
+returns-then-ne c = fresh_is _ _ _ _ (sym c.check.ensures.value ∙ c.in_ok-check.was) true c.if-ne.ensures
 
-pub returns-in-Refused : goal.returns-in-Refused
-returns-in-Refused c = search (rules, fresh_refused)
-
-pub returns-else-largest-top : goal.returns-else-largest-top
-returns-else-largest-top c = search (rules, fresh_both)
+pub returns : goal.returns
+returns c = fresh_is _ _ _ _ (sym c.check.ensures.value ∙ c.in_ok-check.was) false c.if-ne.ensures

@@ -5,8 +5,8 @@ use Rattle.contacts.proofs.is_good.Goals as goal
 pub returns-then-s-end : goal.returns-then-s-end
 returns-then-s-end c = search (rules, good_long)
 
-pub returns-then-at-two_at : goal.returns-then-at-two_at
-returns-then-at-two_at c = search (rules, good_size)
+pub returns-then-at-number_at : goal.returns-then-at-number_at
+returns-then-at-number_at c = search (rules, good_size)
 
 pub returns-then-not-is_sound_head : goal.returns-then-not-is_sound_head
 returns-then-not-is_sound_head c = search (rules, good_head)

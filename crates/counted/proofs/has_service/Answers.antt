@@ -2,8 +2,8 @@ use Rattle.counted.proofs.AlikeLaws.{bit_none, bit_some}
 use borrow.Author.Rules.{rules}
 use Rattle.counted.proofs.has_service.Goals as goal
 
-pub returns-then-s-eq0 : goal.returns-then-s-eq0
-returns-then-s-eq0 c = search (rules, bit_none)
+pub returns-else-s-ne0 : goal.returns-else-s-ne0
+returns-else-s-ne0 c = search (rules, bit_none)
 
-pub returns : goal.returns
-returns c = search (rules, bit_some)
+pub returns-then-s-ne0 : goal.returns-then-s-ne0
+returns-then-s-ne0 c = search (rules, bit_some)

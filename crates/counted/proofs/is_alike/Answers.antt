@@ -2,8 +2,8 @@ use Rattle.counted.proofs.AlikeLaws.{other_fate, same_contact, same_key}
 use borrow.Author.Rules.{rules}
 use Rattle.counted.proofs.is_alike.Goals as goal
 
-pub returns-then-number_in-fate : goal.returns-then-number_in-fate
-returns-then-number_in-fate c = search (rules, other_fate)
+pub returns-then-r-fate : goal.returns-then-r-fate
+returns-then-r-fate c = search (rules, other_fate)
 
 pub returns-then-fate-eq-CONFIRMED : goal.returns-then-fate-eq-CONFIRMED
 returns-then-fate-eq-CONFIRMED c = search (rules, same_contact)

@@ -5,5 +5,5 @@ use Rattle.counted.proofs.is_hit.Goals as goal
 pub returns-then-has_service : goal.returns-then-has_service
 returns-then-has_service c = search (rules, served)
 
-pub returns : goal.returns
-returns c = search (rules, not_served)
+pub returns-else-has_service : goal.returns-else-has_service
+returns-else-has_service c = search (rules, not_served)

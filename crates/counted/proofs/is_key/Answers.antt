@@ -2,8 +2,8 @@ use Rattle.counted.proofs.AlikeLaws.{key_other, key_same}
 use borrow.Author.Rules.{rules}
 use Rattle.counted.proofs.is_key.Goals as goal
 
-pub returns-then-number_in : goal.returns-then-number_in
-returns-then-number_in c = search (rules, key_other)
+pub returns-else-r-s : goal.returns-else-r-s
+returns-else-r-s c = search (rules, key_other)
 
-pub returns : goal.returns
-returns c = search (rules, key_same)
+pub returns-then-r-s : goal.returns-then-r-s
+returns-then-r-s c = search (rules, key_same)

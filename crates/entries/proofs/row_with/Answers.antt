@@ -1,3 +1,5 @@
+use mathlib.Core.Path.{◌∙◌}
+use Rattle.plan.proofs.CountLaws.{byte_is}
 use Rattle.entries.proofs.RowLaws.{row_is}
 use Rattle.entries.proofs.row_with.Goals as goal
 
@@ -11,4 +13,4 @@ returns c = row_is _ _ _ _ _ _ _ _ _ _ _ _ _ _ _
     c.low_half.ensures
     c.high_half.ensures
     c.bears_any.ensures
-    c.one_if.ensures
+    (c.from.ensures ∙ byte_is _)

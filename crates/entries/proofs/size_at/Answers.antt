@@ -4,19 +4,13 @@ use Rattle.entries.proofs.WalkLaws.{size_more, size_other, size_last}
 use Rattle.entries.proofs.size_at.Goals as goal
 
 pub loop-i-init : goal.loop-i-init
-loop-i-init c = (omega arith, omega arith, search rules, omega arith)
+loop-i-init c = omega arith
 
 pub returns-then-table-i-clause-value : goal.returns-then-table-i-clause-value
 returns-then-table-i-clause-value c = search (rules, size_other)
 
-pub returns-then-table-i-clause-result_in_bounds : goal.returns-then-table-i-clause-result_in_bounds
-returns-then-table-i-clause-result_in_bounds c = omega arith
-
 pub loop-i-preserved : goal.loop-i-preserved
-loop-i-preserved c = (omega arith, omega arith, search rules, search (rules, size_more))
+loop-i-preserved c = search (rules, size_more)
 
 pub returns-clause-value : goal.returns-clause-value
 returns-clause-value c = search (rules, size_last)
-
-pub returns-clause-result_in_bounds : goal.returns-clause-result_in_bounds
-returns-clause-result_in_bounds c = omega arith

@@ -1,10 +1,6 @@
-use Rattle.index.specs.Rows.{seconds_in}
+use mathlib.Core.Path.{◌∙◌}
+use Rattle.index.proofs.RowLaws.{seconds_are}
 use Rattle.index.proofs.seconds_in.Goals as goal
 
-pub returns-in-At : goal.returns-in-At
-unfolding seconds_in
-returns-in-At c = cc
-
-pub returns-in-Never : goal.returns-in-Never
-unfolding seconds_in
-returns-in-Never c = cc
+pub returns : goal.returns
+returns c = c.unwrap_or.ensures ∙ seconds_are c.args.m

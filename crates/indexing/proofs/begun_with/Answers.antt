@@ -1,6 +1,6 @@
-use Rattle.indexing.proofs.ChainLaws.{begun_is}
-use borrow.Author.Rules.{rules}
+use mathlib.Core.Path.{sym}
+use Rattle.index.proofs.ContactLaws.{contact_back}
 use Rattle.indexing.proofs.begun_with.Goals as goal
 
 pub returns : goal.returns
-returns c = search (rules, begun_is)
+returns c = sym (contact_back _)

@@ -1,8 +1,8 @@
 use Rattle.indexing.proofs.BuildLaws.{count_marked, count_refused}
 use Rattle.indexing.proofs.count_in.Goals as goal
 
-pub returns-in-Marked : goal.returns-in-Marked
-returns-in-Marked c = search count_marked
+pub returns-in-Ok : goal.returns-in-Ok
+returns-in-Ok c = search count_marked
 
-pub returns-in-Refused : goal.returns-in-Refused
-returns-in-Refused c = search count_refused
+pub returns-in-Err : goal.returns-in-Err
+returns-in-Err c = search count_refused

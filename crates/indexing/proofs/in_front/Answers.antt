@@ -1,6 +1,6 @@
-use Rattle.indexing.proofs.ChainLaws.{front_is}
-use borrow.Author.Rules.{rules}
+use mathlib.Core.Path.{sym}
+use Rattle.index.proofs.ContactLaws.{contact_back}
 use Rattle.indexing.proofs.in_front.Goals as goal
 
 pub returns : goal.returns
-returns c = search (rules, front_is)
+returns c = sym (contact_back _)

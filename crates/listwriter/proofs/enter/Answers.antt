@@ -5,8 +5,8 @@ use Rattle.listwriter.proofs.enter.Goals as goal
 pub returns-then-not-all : goal.returns-then-not-all
 returns-then-not-all c = search (rules, unsound)
 
-pub returns-then-id-largest : goal.returns-then-id-largest
-returns-then-id-largest c = search (rules, low)
+pub returns-then-e-largest : goal.returns-then-e-largest
+returns-then-e-largest c = search (rules, low)
 
 pub put_behind-requires : goal.put_behind-requires
 put_behind-requires c = (search rules, search rules, search rules, search (rules, all_counted))

@@ -2,8 +2,8 @@ use Rattle.listwriter.proofs.HeadingLaws.{heading_none, heading_other, heading_b
 use borrow.Author.Rules.{rules}
 use Rattle.listwriter.proofs.heading_of.Goals as goal
 
-pub returns-then-list-eq0 : goal.returns-then-list-eq0
-returns-then-list-eq0 c = search (rules, heading_none)
+pub returns-then-is_empty : goal.returns-then-is_empty
+returns-then-is_empty c = search (rules, heading_none)
 
 pub returns-then-list-ne-VERSION : goal.returns-then-list-ne-VERSION
 returns-then-list-ne-VERSION c = search (rules, heading_other)

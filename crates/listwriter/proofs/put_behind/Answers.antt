@@ -1,3 +1,4 @@
+use native.Mathlib.Omega.{arith}
 use Rattle.output.specs.Put.{Room}
 use Rattle.contacts.specs.Contacts.{bytes_of}
 use Rattle.listwriter.proofs.AppendLaws.{behind_long, behind_short, behind_room, behind_count, behind_done}
@@ -15,7 +16,7 @@ put_entry-requires c = (search (rules, behind_room), search rules)
 
 pub put_number-requires : goal.put_number-requires
 unfolding Room bytes_of
-put_number-requires c = search (rules, behind_count)
+put_number-requires c = (search (rules, behind_count), omega arith)
 
 pub returns : goal.returns
 returns c = search (rules, behind_done)

@@ -1,13 +1,9 @@
 use native.Mathlib.Omega.{arith}
-use mathlib.Core.Path.{refl}
 use Rattle.merge.proofs.RowLaws.{size_on, size_end}
 use Rattle.merge.proofs.rows_size.Goals as goal
 
-pub loop-i-init : goal.loop-i-init
-loop-i-init c = (omega arith, omega arith, refl)
-
 pub loop-i-preserved : goal.loop-i-preserved
-loop-i-preserved c = (omega arith, omega arith, search size_on)
+loop-i-preserved c = (omega arith, search size_on)
 
 pub returns-clause-value : goal.returns-clause-value
 returns-clause-value c = search size_end

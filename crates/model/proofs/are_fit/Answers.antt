@@ -1,17 +1,11 @@
-use borrow.Author.Rules.{rules}
-use native.Mathlib.Omega.{arith}
-use mathlib.Core.Path.{refl}
-use Rattle.model.proofs.PlaceLaws.{one_unfit, next_fit, all_fit}
+use Rattle.std.proofs.Common.{◌∙◌, rules, tests}
+use Rattle.std.proofs.lemmas.Iterator.{YieldsList-from_slice}
+use Rattle.std.proofs.lemmas.Iterator.Search.{all_from_yields_List}
+use Rattle.model.specs.Answer.{is_fit}
+use Rattle.model.proofs.PlaceLaws.{fit_all}
 use Rattle.model.proofs.are_fit.Goals as goal
 
-pub loop-i-init : goal.loop-i-init
-loop-i-init c = (omega arith, search rules, refl)
-
-pub returns-then-not-is_fit : goal.returns-then-not-is_fit
-returns-then-not-is_fit c = search one_unfit
-
-pub loop-i-preserved : goal.loop-i-preserved
-loop-i-preserved c = (omega arith, search rules, search next_fit)
-
 pub returns : goal.returns
-returns c = search all_fit
+returns c =
+    all_from_yields_List (is_fit c.args.text.now) _ _ _ c.all.ensures.ran (YieldsList-from_slice c.args.columns cc) (λ x b q k. search (rules, tests))
+    ∙ fit_all c.args.text.now c.args.columns

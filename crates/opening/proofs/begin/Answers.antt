@@ -5,8 +5,8 @@ use Rattle.opening.proofs.begin.Goals as goal
 pub read_rows-requires : goal.read_rows-requires
 read_rows-requires c = search (rules, blank_fates)
 
-pub returns-in-Refused : goal.returns-in-Refused
-returns-in-Refused c = search (rules, begun_refused)
+pub returns-in-Err : goal.returns-in-Err
+returns-in-Err c = search (rules, begun_refused)
 
-pub returns-in-Marked : goal.returns-in-Marked
-returns-in-Marked c = search (rules, begun_read)
+pub returns-in-Ok : goal.returns-in-Ok
+returns-in-Ok c = search (rules, begun_read)

@@ -1,17 +1,9 @@
-use mathlib.Core.Path.{refl}
 use native.Mathlib.Omega.{arith}
-use lib.ListN.{length-set}
-use Rattle.output.proofs.PutLaws.{half_start, room_bytes, half_on, half_end}
+use Rattle.std.proofs.lemmas.Grind.{common_steps}
+use Rattle.std.proofs.lemmas.List.Edits.{sets-eq}
+use Rattle.output.specs.Put.{Put, Room}
 use Rattle.output.proofs.put_bytes.Goals as goal
 
-pub loop-i-init : goal.loop-i-init
-loop-i-init c = (omega arith, search room_bytes, refl, half_start _ _ _)
-
-pub loop-i-preserved : goal.loop-i-preserved
-loop-i-preserved c = (omega arith, omega arith, simp length-set (omega arith), search half_on)
-
-pub shape_of-out : goal.shape_of-out
-shape_of-out c = omega arith
-
 pub returns : goal.returns
-returns c = search half_end
+unfolding Put Room
+returns c = grind (arith, common_steps, sets-eq)

@@ -1,5 +1,5 @@
 use Rattle.ox_model.proofs.AnswerLaws.{refused_is}
 use Rattle.ox_model.proofs.refusal_of.Goals as goal
 
-pub returns-in-Refused : goal.returns-in-Refused
-returns-in-Refused c = search refused_is
+pub returns-in-Err : goal.returns-in-Err
+returns-in-Err c = search refused_is

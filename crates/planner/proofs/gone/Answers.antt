@@ -1,8 +1,9 @@
+use mathlib.Core.Path.{sym, ◌∙◌}
 use Rattle.planner.proofs.FinishLaws.{gone_all, gone_none}
 use Rattle.planner.proofs.gone.Goals as goal
 
-pub returns-in-Refused : goal.returns-in-Refused
-returns-in-Refused c = search gone_all
+pub returns-then-is_err : goal.returns-then-is_err
+returns-then-is_err c = gone_all _ _ (sym c.is_err.ensures.value ∙ c.if-is_err.true)
 
-pub returns-in-Made : goal.returns-in-Made
-returns-in-Made c = search gone_none
+pub returns-else-is_err : goal.returns-else-is_err
+returns-else-is_err c = gone_none _ _ (sym c.is_err.ensures.value ∙ c.if-is_err.false)

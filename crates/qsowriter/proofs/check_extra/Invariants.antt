@@ -1,11 +1,8 @@
 use mathlib.Core.Path.{◌≡◌}
-use Prim.Native.Nat.{◌+◌, ◌-◌, ◌*◌, ◌≤◌}
+use Prim.Native.Nat.{◌+◌, ◌*◌, ◌≤◌}
 use lib.ListN.{length}
 use Rattle.qsowriter.proofs.CheckLaws.{Checking}
 use Rattle.qsowriter.proofs.check_extra.Given as goal
 
 abbrev pub invariant-loop-i : goal.invariant-loop-i
-invariant-loop-i l = (l.i ≤ l.count) × (l.n ≤ 1) × (l.c ≤ 13 + l.n * 243) × (length l.cells ≡ 13) × Checking l.text l.cells l.table l.count l.n l.c l.p l.i
-
-abbrev pub decreases-loop-i : goal.decreases-loop-i
-decreases-loop-i l = l.count - l.i
+invariant-loop-i l = (l.n ≤ 1) × (l.c ≤ 13 + l.n * 243) × (length l.cells ≡ 13) × Checking l.text l.cells l.table l.count l.n l.c l.p l.i

@@ -1,11 +1,8 @@
-use Rattle.reader.proofs.CloseLaws.{finish_none, finish_at, finish_refused}
+use Rattle.reader.proofs.CloseLaws.{finish_none, finish_closed}
 use Rattle.reader.proofs.finish.Goals as goal
 
-pub returns-then-records-eq0 : goal.returns-then-records-eq0
-returns-then-records-eq0 c = finish_none _ _ _ _ _ c.if-records-eq0.true
+pub returns-then-closed-eq0 : goal.returns-then-closed-eq0
+returns-then-closed-eq0 c = search finish_none
 
-pub returns-in-At : goal.returns-in-At
-returns-in-At c = finish_at _ _ _ _ _ c.if-records-eq0.false _ _ c.close-closed.ensures _ _ c.in-At.is
-
-pub returns-in-Refused : goal.returns-in-Refused
-returns-in-Refused c = finish_refused _ _ _ _ _ c.if-records-eq0.false _ _ c.close-closed.ensures _ c.in-Refused.is
+pub returns : goal.returns
+returns c = search finish_closed

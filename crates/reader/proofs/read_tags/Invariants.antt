@@ -5,7 +5,9 @@ use Rattle.reader.proofs.GoingLaws.{Going}
 use Rattle.reader.proofs.read_tags.Given as goal
 
 abbrev pub invariant-loop-reading : goal.invariant-loop-reading
-invariant-loop-reading l = (length l.hand ≡ 256) × (l.held ≤ 256) × (length l.table ≡ length l.initial.table) × (5 * l.rows ≤ length l.table) × Going l.text l.initial.table l.table l.hand l.at l.held l.records l.rows
+invariant-loop-reading l =
+    (length l.hand ≡ 256) × (l.so_far.held ≤ 256) × (5 * l.so_far.closed.rows ≤ length l.table)
+    × Going l.text l.initial.table l.table l.hand l.so_far
 
 abbrev pub decreases-loop-reading : goal.decreases-loop-reading
-decreases-loop-reading l = length l.text - l.at
+decreases-loop-reading l = length l.text - l.so_far.at

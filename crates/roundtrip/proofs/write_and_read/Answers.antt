@@ -1,28 +1,34 @@
 use lib.Seq.{length-take-le}
+use mathlib.Core.Path.{sym}
+use Rattle.std.proofs.lemmas.Result.{err_from_is_err_and}
 use Rattle.roundtrip.proofs.Carried.{in_output, back_is, back_table, back_says, not_is, not_table, not_says}
-use borrow.Author.Rules.{rules}
 use Rattle.roundtrip.proofs.write_and_read.Goals as goal
 
+pub returns-in_err-n-clause-value : goal.returns-in_err-n-clause-value
+returns-in_err-n-clause-value c =
+    let p = err_from_is_err_and c.from_residual.result c.from_residual.ensures.1 in
+    rw (p.1, p.2) (not_is _ _ _ _ _ c.write.ensures.value _ c.in_err-n.was _)
+
+pub returns-in_err-n-clause-table_after : goal.returns-in_err-n-clause-table_after
+returns-in_err-n-clause-table_after c = not_table _ _ _ _ _ c.write.ensures.value _ c.in_err-n.was _
+
+pub returns-in_err-n-clause-says_same : goal.returns-in_err-n-clause-says_same
+returns-in_err-n-clause-says_same c = not_says _ _ _ _ _ c.write.ensures.value _ c.in_err-n.was _ _ _
+
 pub slice_bounds-read-end : goal.slice_bounds-read-end
-slice_bounds-read-end c = search in_output
+slice_bounds-read-end c = in_output _ _ _ _ _ _ c.write.ensures.value c.write.ensures.out_after _ c.in_ok-n.was
 
-pub slice_bounds-read-end-in-Bytes : goal.slice_bounds-read-end-in-Bytes
-slice_bounds-read-end-in-Bytes c = search (rules, length-take-le, in_output)
+pub slice_bounds-read-end-2 : goal.slice_bounds-read-end-2
+slice_bounds-read-end-2 c = sym (length-take-le _ _ (in_output _ _ _ _ _ _ c.write.ensures.value c.write.ensures.out_after _ c.in_ok-n.was))
 
-pub returns-in-Unwritten-clause-value : goal.returns-in-Unwritten-clause-value
-returns-in-Unwritten-clause-value c = search not_is
+pub returns-clause-value : goal.returns-clause-value
+returns-clause-value c =
+    back_is _ _ _ _ _ _ c.write.ensures.value c.write.ensures.out_after _ c.in_ok-n.was _ _ _ c.read.ensures.value c.read.ensures.table_after
 
-pub returns-in-Unwritten-clause-table_after : goal.returns-in-Unwritten-clause-table_after
-returns-in-Unwritten-clause-table_after c = search not_table
+pub returns-clause-table_after : goal.returns-clause-table_after
+returns-clause-table_after c =
+    back_table _ _ _ _ _ _ c.write.ensures.value c.write.ensures.out_after _ c.in_ok-n.was _ _ _ c.read.ensures.value c.read.ensures.table_after
 
-pub returns-in-Unwritten-clause-says_same : goal.returns-in-Unwritten-clause-says_same
-returns-in-Unwritten-clause-says_same c = search not_says
-
-pub returns-in-Bytes-clause-value : goal.returns-in-Bytes-clause-value
-returns-in-Bytes-clause-value c = search back_is
-
-pub returns-in-Bytes-clause-table_after : goal.returns-in-Bytes-clause-table_after
-returns-in-Bytes-clause-table_after c = search back_table
-
-pub returns-in-Bytes-clause-says_same : goal.returns-in-Bytes-clause-says_same
-returns-in-Bytes-clause-says_same c = search back_says
+pub returns-clause-says_same : goal.returns-clause-says_same
+returns-clause-says_same c =
+    back_says _ _ _ _ _ _ c.write.ensures.value c.write.ensures.out_after _ c.in_ok-n.was _ _ _ c.read.ensures.value c.read.ensures.table_after

@@ -1,8 +1,6 @@
-use Rattle.search.proofs.FindLaws.{entry_low, entry_is}
+use Rattle.search.specs.Steps.{entry_in}
 use Rattle.search.proofs.entry_in.Goals as goal
 
-pub returns-then-call-lt11 : goal.returns-then-call-lt11
-returns-then-call-lt11 c = search entry_low
-
 pub returns : goal.returns
-returns c = search entry_is
+unfolding entry_in
+returns c = c.saturating_sub.ensures

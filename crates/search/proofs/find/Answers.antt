@@ -1,8 +1,8 @@
 use borrow.Author.Rules.{rules}
 use mathlib.Core.Path.{sym, ◌∙◌, subst}
 use Prim.Native.Nat.{◌<◌, ◌-◌, ◌%◌}
-use lib.ListN.{length}
-use Rattle.index.specs.Contacts.{plain}
+use lib.ListN.{length, get_or}
+use Rattle.index.specs.Contacts.{no_contact, plain}
 use Rattle.search.specs.declared.Hit.{Hit}
 use Rattle.search.proofs.FindLaws.{Walking, find_none, find_first, find_next, find_down, find_end, chain_in, contact_in, short_list}
 use Rattle.search.proofs.find.Goals as goal
@@ -27,18 +27,17 @@ offset_bounds-rows-b c =
 pub loop-at-init : goal.loop-at-init
 loop-at-init c =
     let a = c.args in
-    subst (λ (h : Hit). Walking a.list.now (plain a.rows.now) a.text.now a.wanted a.limit a.n c.code_for-code.result c.number_in-at.result h) (sym c.no_hit-best.ensures)
-    (find_first a.list.now a.rows.now a.text.now a.wanted a.limit a.n c.code_for-code.result c.requires c.code_for-code.ensures c.if-n-eq0.false
-    c.numbers_of.result c.number_in-at.result c.numbers_of.ensures c.number_in-at.ensures)
+    subst (λ (h : Hit). Walking a.list.now (plain a.rows.now) a.text.now a.wanted a.limit a.n c.code_for-code.result (get_or a.rows.now (c.code_for-code.result % a.n) no_contact).head h) (sym c.no_hit-best.ensures)
+    (find_first a.list.now a.rows.now a.text.now a.wanted a.limit a.n c.code_for-code.result c.requires c.code_for-code.ensures c.if-n-eq0.false)
 
-pub bounds-rows-i : goal.bounds-rows-i
-bounds-rows-i c =
+pub bounds-rows-at : goal.bounds-rows-at
+bounds-rows-at c =
     let a = c.args in
     contact_in a.list.now a.rows.now a.text.now a.wanted a.limit a.n c.code_for-code.result c.requires c.code_for-code.ensures c.if-n-eq0.false
     c.loop-at.at c.loop-at.best c.loop-at.invariant c.loop-at-test.true
 
-pub offset_bounds-rows-i : goal.offset_bounds-rows-i
-offset_bounds-rows-i c =
+pub offset_bounds-rows-at : goal.offset_bounds-rows-at
+offset_bounds-rows-at c =
     let a = c.args in
     let h : c.loop-at.at - 1 < length a.rows.now =
     contact_in a.list.now a.rows.now a.text.now a.wanted a.limit a.n c.code_for-code.result c.requires c.code_for-code.ensures c.if-n-eq0.false
@@ -52,15 +51,13 @@ pub loop-at-preserved : goal.loop-at-preserved
 loop-at-preserved c =
     let a = c.args in
     find_next a.list.now a.rows.now a.text.now a.wanted a.limit a.n c.code_for-code.result c.requires c.code_for-code.ensures c.if-n-eq0.false
-    c.loop-at.at c.loop-at.best c.loop-at.invariant c.loop-at-test.true c.numbers_of-row.result c.number_in-at-in-loop-at.result c.numbers_of-row.ensures
-    c.number_in-at-in-loop-at.ensures c.found-best.result c.found-best.ensures
+    c.loop-at.at c.loop-at.best c.loop-at.invariant c.loop-at-test.true c.found-best.result c.found-best.ensures
 
 pub loop-at-smaller : goal.loop-at-smaller
 loop-at-smaller c =
     let a = c.args in
     find_down a.list.now a.rows.now a.text.now a.wanted a.limit a.n c.code_for-code.result c.requires c.code_for-code.ensures c.if-n-eq0.false
-    c.loop-at.at c.loop-at.best c.loop-at.invariant c.loop-at-test.true c.numbers_of-row.result c.number_in-at-in-loop-at.result c.numbers_of-row.ensures
-    c.number_in-at-in-loop-at.ensures
+    c.loop-at.at c.loop-at.best c.loop-at.invariant c.loop-at-test.true
 
 pub returns : goal.returns
 returns c =

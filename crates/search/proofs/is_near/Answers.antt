@@ -1,12 +1,11 @@
 use Rattle.search.proofs.FindLaws.{near_never, never_near, both_near}
-use borrow.Author.Rules.{rules}
 use Rattle.search.proofs.is_near.Goals as goal
 
-pub returns-in-Never : goal.returns-in-Never
-returns-in-Never c = search (rules, near_never, never_near)
+pub returns-in-Some-Some : goal.returns-in-Some-Some
+returns-in-Some-Some c = both_near _ _ _ _ _ _ c.in-Some-Some.is-0 c.in-Some-Some.is-1 c.distance.ensures
 
-pub returns-in-Never-b : goal.returns-in-Never-b
-returns-in-Never-b c = search (rules, near_never, never_near)
+pub returns-in_default : goal.returns-in_default
+returns-in_default c = never_near _ _ _ _ c.in_default.is-0 c.in_default.is-1
 
-pub returns-in-At-b : goal.returns-in-At-b
-returns-in-At-b c = search (rules, both_near)
+pub returns-in_default-2 : goal.returns-in_default-2
+returns-in_default-2 c = near_never _ _ _ c.in_default.is-0

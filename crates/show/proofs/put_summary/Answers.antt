@@ -1,5 +1,8 @@
-use Rattle.show.proofs.PlanLaws.{size_within, front_size, front_room, front_put}
+use Rattle.show.proofs.PlanLaws.{is_written, size_within, front_size, front_room, front_put}
 use Rattle.show.proofs.put_summary.Goals as goal
+
+pub unwrap-n-requires : goal.unwrap-n-requires
+unwrap-n-requires c = search is_written
 
 pub slice_bounds-line-end : goal.slice_bounds-line-end
 slice_bounds-line-end c = search size_within

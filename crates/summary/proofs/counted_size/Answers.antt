@@ -1,22 +1,13 @@
 use Rattle.output.proofs.DigitLaws.{few_decimals}
-use Rattle.summary.proofs.SizeLaws.{one_size, many_size}
+use Rattle.summary.proofs.SizeLaws.{counted_is, named_short}
 use native.Mathlib.Omega.{arith}
 use Rattle.summary.proofs.counted_size.Goals as goal
 
 pub overflow_add-result : goal.overflow_add-result
-overflow_add-result c = omega (arith, few_decimals _ _ c.decimal_size-digits.ensures)
-
-pub returns-then-n-eq1-clause-value : goal.returns-then-n-eq1-clause-value
-returns-then-n-eq1-clause-value c = search one_size
-
-pub returns-then-n-eq1-clause-upper_bound : goal.returns-then-n-eq1-clause-upper_bound
-returns-then-n-eq1-clause-upper_bound c = omega (arith, few_decimals _ _ c.decimal_size-digits.ensures)
-
-pub overflow_add-result-2 : goal.overflow_add-result-2
-overflow_add-result-2 c = omega (arith, few_decimals _ _ c.decimal_size-digits.ensures)
+overflow_add-result c = omega (arith, few_decimals _ _ c.decimal_size.ensures, named_short _ _ _ _ c.decimal_size.ensures _ c.named.ensures c.requires.0 c.requires.1)
 
 pub returns-clause-value : goal.returns-clause-value
-returns-clause-value c = search many_size
+returns-clause-value c = search counted_is
 
 pub returns-clause-upper_bound : goal.returns-clause-upper_bound
-returns-clause-upper_bound c = omega (arith, few_decimals _ _ c.decimal_size-digits.ensures)
+returns-clause-upper_bound c = omega (arith, few_decimals _ _ c.decimal_size.ensures, named_short _ _ _ _ c.decimal_size.ensures _ c.named.ensures c.requires.0 c.requires.1)

@@ -1,11 +1,6 @@
-use Prim.Native.Nat.{◌≤◌, ◌-◌}
-use lib.ListN.{length}
 use Rattle.tables.specs.Table.{named, cut}
 use Rattle.tables.proofs.TableLaws.{Named-from}
 use Rattle.tables.proofs.named_in.Given as goal
 
 abbrev pub invariant-loop-i : goal.invariant-loop-i
-invariant-loop-i l = (l.i ≤ length l.names) × Named-from l.text l.names l.lens l.i (named l.text (cut l.names l.lens))
-
-abbrev pub decreases-loop-i : goal.decreases-loop-i
-decreases-loop-i l = length l.names - l.i
+invariant-loop-i l = Named-from l.text l.names l.lens l.i (named l.text (cut l.names l.lens))

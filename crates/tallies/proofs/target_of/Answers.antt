@@ -5,8 +5,8 @@ use Rattle.tallies.proofs.target_of.Goals as goal
 pub returns-then-hit-eq0 : goal.returns-then-hit-eq0
 returns-then-hit-eq0 c = search (rules, target_zero)
 
-pub returns-then-fate-eq-CONFIRMED : goal.returns-then-fate-eq-CONFIRMED
-returns-then-fate-eq-CONFIRMED c = search (rules, target_found)
+pub returns-then-fate : goal.returns-then-fate
+returns-then-fate c = search (rules, target_found)
 
 pub returns : goal.returns
 returns c = search (rules, target_none)

@@ -1,23 +1,13 @@
-use mathlib.Core.Path.{refl}
 use borrow.Author.Rules.{rules}
 use Rattle.text.proofs.Walks.{here, out}
 use Rattle.text.proofs.SpaceLaws.{is_here, goes_by}
 use Rattle.text.proofs.find.Goals as goal
 
-pub loop-i-init : goal.loop-i-init
-loop-i-init c = (search rules, (search rules, refl))
-
 pub returns-then-s-i-clause-value : goal.returns-then-s-i-clause-value
 returns-then-s-i-clause-value c = search (rules, here, is_here)
-
-pub returns-then-s-i-clause-lower_bound : goal.returns-then-s-i-clause-lower_bound
-returns-then-s-i-clause-lower_bound c = search (rules, here, is_here)
 
 pub loop-i-preserved : goal.loop-i-preserved
 loop-i-preserved c = search (rules, goes_by)
 
 pub returns-clause-value : goal.returns-clause-value
 returns-clause-value c = search (rules, out)
-
-pub returns-clause-lower_bound : goal.returns-clause-lower_bound
-returns-clause-lower_bound c = search (rules, out)

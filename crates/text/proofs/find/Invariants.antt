@@ -1,12 +1,7 @@
 use mathlib.Core.Path.{◌≡◌}
-use Prim.Native.Nat.{◌≤◌, ◌-◌}
-use lib.ListN.{length}
 use Rattle.text.specs.Walk.{ends}
 use Rattle.text.specs.Find.{other}
 use Rattle.text.proofs.find.Given as goal
 
 abbrev pub invariant-loop-i : goal.invariant-loop-i
-invariant-loop-i l = (l.i ≤ length l.s) × ((l.from ≤ l.i) × (ends (other l.b) l.s l.i ≡ ends (other l.b) l.s l.from))
-
-abbrev pub decreases-loop-i : goal.decreases-loop-i
-decreases-loop-i l = length l.s - l.i
+invariant-loop-i l = ends (other l.b) l.s l.i ≡ ends (other l.b) l.s l.from

@@ -1,11 +1,6 @@
-use Prim.Native.Nat.{◌≤◌, ◌-◌}
-use mathlib.Core.Path.{◌≡◌}
-use lib.ListN.{length}
+use lib.ListN.{take}
 use Rattle.wiped.proofs.KeptLaws.{Keeping}
 use Rattle.wiped.proofs.keep_fates.Given as goal
 
-abbrev pub invariant-loop-k : goal.invariant-loop-k
-invariant-loop-k l = (l.n ≤ length l.rows) × (length l.rows ≡ length l.initial.rows) × Keeping l.n l.initial.rows l.rows l.k
-
-abbrev pub decreases-loop-k : goal.decreases-loop-k
-decreases-loop-k l = l.n - l.k
+abbrev pub invariant-loop-row : goal.invariant-loop-row
+invariant-loop-row l = Keeping l.n (take l.n l.fn.rows) l.row-items l.row-index

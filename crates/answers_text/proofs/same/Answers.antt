@@ -1,9 +1,0 @@
-use lib.Seq.{length-take-le}
-use borrow.Author.Rules.{rules}
-use Rattle.answers_text.proofs.same.Goals as goal
-
-pub slice_bounds-same-end-2 : goal.slice_bounds-same-end-2
-slice_bounds-same-end-2 c = search (rules, length-take-le)
-
-pub slice_bounds-same-end-4 : goal.slice_bounds-same-end-4
-slice_bounds-same-end-4 c = search (rules, length-take-le)

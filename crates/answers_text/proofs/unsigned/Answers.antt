@@ -1,6 +1,0 @@
-use lib.Seq.{length-take-le}
-use borrow.Author.Rules.{rules}
-use Rattle.answers_text.proofs.unsigned.Goals as goal
-
-pub slice_bounds-parse_unsigned-end-2 : goal.slice_bounds-parse_unsigned-end-2
-slice_bounds-parse_unsigned-end-2 c = search (rules, length-take-le)

@@ -1,8 +1,0 @@
-use Rattle.ox_normalize.proofs.NormalizingAnswers.{band_refused, band_accepted}
-use Rattle.ox_normalize.proofs.ox_band_canonical.Goals as goal
-
-pub returns-in-Refused : goal.returns-in-Refused
-returns-in-Refused c = search band_refused
-
-pub returns-in-Accepted : goal.returns-in-Accepted
-returns-in-Accepted c = search band_accepted

@@ -1,8 +1,0 @@
-use Rattle.ox_text.proofs.TextAnswers.{same_refused, same_accepted}
-use Rattle.ox_text.proofs.ox_text_same.Goals as goal
-
-pub returns-in-Refused : goal.returns-in-Refused
-returns-in-Refused c = search same_refused
-
-pub returns-in-Accepted : goal.returns-in-Accepted
-returns-in-Accepted c = search same_accepted

@@ -1,8 +1,0 @@
-use Rattle.ox_writer.proofs.WriteAnswers.{written_bytes, written_not}
-use Rattle.ox_writer.proofs.of_written.Goals as goal
-
-pub returns-in-Bytes : goal.returns-in-Bytes
-returns-in-Bytes c = search written_bytes
-
-pub returns-in-Unwritten : goal.returns-in-Unwritten
-returns-in-Unwritten c = search written_not
