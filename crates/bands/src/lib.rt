@@ -63,7 +63,7 @@ fn band_in(bounds: &[(u64, u64)], hz: u64) -> Option<u32>
 {
     let i = bounds
         .iter()
-        .position(|&(low, high)| low <= hz && hz <= high)?;
+        .position(|&(low, high)| hz <= high && low <= hz)?;
     Some(i as u32)
 }
 

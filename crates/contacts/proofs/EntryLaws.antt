@@ -81,9 +81,21 @@ number_part s from n (suc k) h =
     let z : 0 + k ≡ k = omega arith in
     rw (number_part s from n k (omega arith), z, get_or-take n (drop from s) k 0 (omega arith), get_or-drop) refl
 
-pub id_near : (s : List ℕ) (at n : ℕ) → n ≡ number_at (take (at + 10 - (at + 2)) (drop (at + 2) s)) 0 8 → n ≡ id_at s at
+-- the number of eight bytes by its halves
+halves : (s : List ℕ) (from : ℕ) → number_at s from 4 * 4294967296 + number_at s (from + 4) 4 ≡ number_at s from 8
+unfolding number_at
+halves s from =
+    let z0 : from + 4 + 0 ≡ from + 4 = omega arith in
+    let z1 : from + 4 + 1 ≡ from + 5 = omega arith in
+    let z2 : from + 4 + 2 ≡ from + 6 = omega arith in
+    let z3 : from + 4 + 3 ≡ from + 7 = omega arith in
+    rw (z0, z1, z2, z3) (omega arith)
+
+pub id_near : (s : List ℕ) (at a b : ℕ) → a ≡ number_at (take (at + 6 - (at + 2)) (drop (at + 2) s)) 0 4 → b ≡ number_at (take (at + 10 - (at + 6)) (drop (at + 6) s)) 0 4 → a * 4294967296 + b ≡ id_at s at
 unfolding id_at
-id_near s at n e = e ∙ number_part s (at + 2) (at + 10 - (at + 2)) 8 (omega arith)
+id_near s at a b ea eb =
+    let z : at + 2 + 4 ≡ at + 6 = omega arith in
+    rw (ea ∙ number_part s (at + 2) (at + 6 - (at + 2)) 4 (omega arith), eb ∙ number_part s (at + 6) (at + 10 - (at + 6)) 4 (omega arith), ← z) (halves s (at + 2))
 
 -- ---- texts
 pub text_out : (s : List ℕ) (p : ℕ) → length s ≤ p → [] ≡ text_at s p

@@ -34,6 +34,8 @@ const SHORT_TIME: usize = 4;
 
 const LONG_TIME: usize = 6;
 
+const HALF_OF_ID: u64 = 4_294_967_296;
+
 const LARGEST_ID: u64 = 9_223_372_036_854_775_807;
 
 const EVERY_SERVICE: u8 = 15;
@@ -65,6 +67,7 @@ pub fn is_sound_head(id: u64, services: u8) -> bool
 }
 
 // Kept: `text::all`, since a chain of five with `&&` has its proof by each branch.
+#[inline(always)]
 pub fn is_sound_texts(call: &[u8], date: &[u8], time: &[u8], band: &[u8], mode: &[u8]) -> bool
     ensures { result ≡ sound_texts call.now date.now time.now band.now mode.now }
 {
@@ -90,7 +93,7 @@ fn number_at(s: &[u8], at: usize, k: usize) -> u64
     n
 }
 
-// Of a whole entry one test serves all eight bytes.
+// Of a whole entry one test serves all eight bytes; each half of them is read as one word.
 pub fn id_at(s: &[u8], at: usize) -> u64
     requires { at ≤ 16777216 }
     ensures { result ≡ id_at s.now at }
@@ -100,7 +103,8 @@ pub fn id_at(s: &[u8], at: usize) -> u64
     if s.len() < to {
         return number_at(s, from, 8);
     }
-    number_at(&s[from..to], 0, 8)
+    let middle = at + 6;
+    number_at(&s[from..middle], 0, 4) * HALF_OF_ID + number_at(&s[middle..to], 0, 4)
 }
 
 // The text whose length byte is at p.
