@@ -159,8 +159,13 @@ raised_is x = ap (λ (ns : List (List ℕ)). first_from (same (capitals x)) 0 ns
 pub raised_is_lem : (x y : List ℕ) (f : Option ℕ) → y ≡ capitals x → f ≡ exact y → f ≡ column_named x
 raised_is_lem x y f e g = g ∙ ap exact e ∙ raised_is x
 
+pub no_such_length : (x : List ℕ) → (length x ≡ 4 → ⊥) → (length x ≡ 7 → ⊥) → (length x ≡ 8 → ⊥) → (length x ≡ 10 → ⊥) → None ≡ column_named x
+no_such_length x a b c d =
+    let e : length (capitals x) ≡ length x = length-map x raised in
+    of_no_length (capitals x) (λ q. a (sym e ∙ q)) (λ q. b (sym e ∙ q)) (λ q. c (sym e ∙ q)) (λ q. d (sym e ∙ q)) ∙ raised_is x
+
 pub too_long : (x : List ℕ) → 10 < length x → None ≡ column_named x
-too_long x h = of_no_length (capitals x) (λ e. omega (arith, length-map x raised)) (λ e. omega (arith, length-map x raised)) (λ e. omega (arith, length-map x raised)) (λ e. omega (arith, length-map x raised)) ∙ raised_is x
+too_long x h = no_such_length x (λ e. omega arith) (λ e. omega arith) (λ e. omega arith) (λ e. omega arith)
 
 -- the loop that raises each byte
 pub raised_next : (l : List ℕ) (bytes : List ℕ) (i v : ℕ) → i < length l → i < length bytes → take i bytes ≡ capitals (take i l) → v ≡ raised (get_or l i 0)

@@ -117,7 +117,7 @@ fn exactly(name: &[u8]) -> Option<u32>
     }
 }
 
-// ---- the case of letters aside: no name has more than ten bytes
+// ---- the case of letters aside: no name has more than ten bytes, and one of another length need not be raised
 fn in_capitals(name: &[u8]) -> [u8; 10]
     requires { length name.now ≤ 10 }
     ensures { take (length name.now) result ≡ capitals name.now }
@@ -132,11 +132,13 @@ fn in_capitals(name: &[u8]) -> [u8; 10]
 fn case_aside(name: &[u8]) -> Option<u32>
     ensures { result ≡ column_named name.now }
 {
-    if 10 < name.len() {
-        return None;
+    match name.len() {
+        4 | 7 | 8 | 10 => {
+            let bytes = in_capitals(name);
+            exactly(&bytes[..name.len()])
+        }
+        _ => None,
     }
-    let bytes = in_capitals(name);
-    exactly(&bytes[..name.len()])
 }
 
 // The column that a field's name names.
