@@ -19,7 +19,7 @@ fn put_hertz(out: &mut [u8], hz: Hz) -> Option<usize>
 fn put_megahertz(out: &mut [u8], hz: u64) -> Option<usize>
     ensures { IfSome result (λ n. n ≤ length out.new) }
 {
-    let at = put_byte(out, 0, b'|')?;
+    let at = put_byte(out, 0, b'|').unwrap_or(0);
     let next = mhz::hz_to_mhz_string(hz, out, at).ok()?;
     put_byte(out, next, b'|')
 }

@@ -4,10 +4,20 @@
 ghost use Rattle.std.specs.Prelude.{◌≤◌, length, IfSome};
 
 use normalize::{classes, modes};
-use notation::put_bars;
+use notation::{put_bars, put_byte};
 use tables::{ModeClass, Name, Place, places};
 
 const LONGEST: usize = 16_777_216;
+
+// The answer `none` from `at` on, a byte at a time: behind one that has no room it goes on from the front.
+fn put_none(out: &mut [u8], at: usize) -> Option<usize>
+    ensures { IfSome result (λ n. n ≤ length out.new) }
+{
+    let n = put_byte(out, at, b'n').unwrap_or(0);
+    let o = put_byte(out, n, b'o').unwrap_or(0);
+    let m = put_byte(out, o, b'n').unwrap_or(0);
+    put_byte(out, m, b'e')
+}
 
 fn put_name(out: &mut [u8], at: usize, name: Name) -> Option<usize>
     ensures { IfSome result (λ n. n ≤ length out.new) }
@@ -21,7 +31,7 @@ fn put_place(out: &mut [u8], at: usize, s: &[u8], p: Place) -> Option<usize>
 {
     let part = places::part(s, p);
     match p.kind {
-        0 => notation::put_bytes(out, at, b"none"),
+        0 => put_none(out, at),
         1 => put_bars(out, at, part),
         2 => notation::put_bars_by(out, at, part, letters::raise),
         _ => put_name(out, at, places::name_of(p)),
@@ -33,11 +43,12 @@ fn put_class(out: &mut [u8], class: Option<ModeClass>) -> Option<usize>
 {
     match class {
         Some(c) => put_name(out, 0, classes::class_name(c)),
-        None => notation::put_none(out),
+        None => put_none(out, 0),
     }
 }
 
-// A submode that is blank leaves the mode to split: what comes out is then in the text of the mode.
+// A submode that is blank leaves the mode to split: what comes out is then in the text of the mode. Behind what has no room the
+// answer goes on from the front.
 fn put_modes(out: &mut [u8], mode: &[u8], submode: Option<&[u8]>) -> Option<usize>
     ensures { IfSome result (λ n. n ≤ length out.new) }
 {
@@ -51,8 +62,8 @@ fn put_modes(out: &mut [u8], mode: &[u8], submode: Option<&[u8]>) -> Option<usiz
     };
     let m = places::stands(0, mode.len() as u32);
     let pair = modes::normalize_modes(mode, m, second, s);
-    let at = put_place(out, 0, mode, pair.mode)?;
-    let next = notation::put_byte(out, at, b' ')?;
+    let at = put_place(out, 0, mode, pair.mode).unwrap_or(0);
+    let next = put_byte(out, at, b' ').unwrap_or(0);
     let own = if places::is_empty(places::tidy(second, s)) {
         mode
     } else {

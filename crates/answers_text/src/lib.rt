@@ -34,15 +34,19 @@ fn put_signed(out: &mut [u8], n: Option<Signed>) -> Option<usize>
     let Some(Signed { negative, size }) = n else {
         return put_none(out);
     };
-    let at = if negative { put_byte(out, 0, b'-')? } else { 0 };
+    let at = if negative {
+        put_byte(out, 0, b'-').unwrap_or(0)
+    } else {
+        0
+    };
     put_number(out, at, size)
 }
 
 fn put_digits(out: &mut [u8], n: u64) -> Option<usize>
     ensures { IfSome result (λ n. n ≤ length out.new) }
 {
-    let at = put_byte(out, 0, b'|')?;
-    let end = put_number(out, at, n)?;
+    let at = put_byte(out, 0, b'|').unwrap_or(0);
+    let end = put_number(out, at, n).unwrap_or(0);
     put_byte(out, end, b'|')
 }
 

@@ -71,7 +71,7 @@ fn put_answer(out: &mut [u8], w: Result<usize, Refusal>, buffer: &[u8]) -> Optio
         Err(why) => [refusals::number(why) as u64, 0],
     };
     let at = notation::put_numbers(out, 0, &numbers)?;
-    let next = notation::put_byte(out, at, b' ')?;
+    let next = notation::put_byte(out, at, b' ').unwrap_or(0);
     notation::put_bars(out, next, buffer)
 }
 

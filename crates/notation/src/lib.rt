@@ -2,7 +2,7 @@
 // `%XX` is a byte that cannot stand for itself; a number is in decimal.
 #![tactic(auto)]
 
-ghost use Rattle.std.specs.Prelude.{◌≤◌, ◌<◌, length, IfSome};
+ghost use Rattle.std.specs.Prelude.{◌≤◌, ◌<◌, ◌+◌, length, IfSome};
 
 // The place after the first b from `from` on, or the end.
 pub fn after(s: &[u8], from: usize, b: u8) -> usize
@@ -90,11 +90,15 @@ fn hex(b: u8) -> u8
     }
 }
 
-// The byte that stands in front, `%XX` being one, and what follows it.
-fn first(s: &[u8]) -> Option<(u8, &[u8])> {
+// The byte that stands in front, `%XX` being one, and what follows it. What is missing behind a `%` counts as 0.
+fn first(s: &[u8]) -> Option<(u8, &[u8])>
+    ensures { IfSome result (λ p. (length p.1.now < length s.now) × (length s.now ≤ length p.1.now + 3)) }
+{
     match s {
         [] => None,
         [b'%', high, low, rest @ ..] => Some((hex(*high) * 16 + hex(*low), rest)),
+        [b'%', high] => Some((hex(*high) * 16, &[])),
+        [b'%'] => Some((0, &[])),
         [b, rest @ ..] => Some((*b, rest)),
     }
 }
@@ -185,26 +189,26 @@ fn hex_digit(n: u8) -> u8
     if n < 10 { b'0' + n } else { b'7' + n }
 }
 
-// b as it stands in a text in bars, where there is room.
+// b as it stands in a text in bars, where there is room. What has none is left out, and what follows it goes on from the front.
 fn put_coded(out: &mut [u8], at: usize, b: u8) -> Option<usize>
     ensures { IfSome result (λ n. n ≤ length out.new) }
 {
     if is_plain(b) {
         return put_byte(out, at, b);
     }
-    let sign = put_byte(out, at, b'%')?;
-    let high = put_byte(out, sign, hex_digit(b / 16))?;
+    let sign = put_byte(out, at, b'%').unwrap_or(0);
+    let high = put_byte(out, sign, hex_digit(b / 16)).unwrap_or(0);
     put_byte(out, high, hex_digit(b % 16))
 }
 
-// s in bars, each byte as f makes it, where there is room.
+// s in bars, each byte as f makes it, where there is room, and from the front again behind what has none.
 pub fn put_bars_by<F: Fn(u8) -> u8>(out: &mut [u8], at: usize, s: &[u8], f: F) -> Option<usize>
     requires { F.IsAlwaysCallable f }
     ensures { IfSome result (λ n. n ≤ length out.new) }
 {
-    let mut to = put_byte(out, at, b'|')?;
+    let mut to = put_byte(out, at, b'|').unwrap_or(0);
     for &b in s {
-        to = put_coded(out, to, f(b))?;
+        to = put_coded(out, to, f(b)).unwrap_or(0);
     }
     put_byte(out, to, b'|')
 }
