@@ -45,11 +45,15 @@ fn put_tests(line: &[u8], s: &[u8], t: &[u8], out: &mut [u8]) -> Option<usize>
 pub fn answer(op: &[u8], line: &[u8], a: &mut [u8], b: &mut [u8], out: &mut [u8]) -> Option<usize>
     ensures { IfSome result (λ n. n ≤ length out.new) }
 {
-    let s = notation::text_in(line, 0, a);
-    let t = notation::text_in(line, notation::after_text(line, 0), b);
     match op {
-        b"moment" => notation::put_number_or_none(out, times::moment_of(s, t)),
-        b"keys" => put_tests(line, s, t, out),
+        b"moment" => {
+            let (s, t) = notation::texts_in(line, a, b);
+            notation::put_number_or_none(out, times::moment_of(s, t))
+        }
+        b"keys" => {
+            let (s, t) = notation::texts_in(line, a, b);
+            put_tests(line, s, t, out)
+        }
         _ => None,
     }
 }

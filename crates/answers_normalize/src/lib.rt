@@ -4,7 +4,7 @@
 ghost use Rattle.std.specs.Prelude.{◌≤◌, length, IfSome};
 
 use normalize::{classes, modes};
-use notation::{put_bars, put_byte};
+use notation::{put_bars, put_byte, text_in};
 use tables::{ModeClass, Name, Place, places};
 
 const LONGEST: usize = 16_777_216;
@@ -76,25 +76,23 @@ fn put_modes(out: &mut [u8], mode: &[u8], submode: Option<&[u8]>) -> Option<usiz
 pub fn answer(op: &[u8], line: &[u8], a: &mut [u8], b: &mut [u8], out: &mut [u8]) -> Option<usize>
     ensures { IfSome result (λ n. n ≤ length out.new) }
 {
-    let s = notation::text_in(line, 0, a);
-    let next = notation::after_text(line, 0);
-    let t = notation::text_in(line, next, b);
     match op {
         b"frequency" => {
             let hz = notation::number_at(line, notation::after(line, 0, b' '));
             put_place(out, 0, line, bands::band_for_freq_hz(hz))
         }
-        b"band" => put_place(out, 0, line, bands::canonical_band(s)),
+        b"band" => put_place(out, 0, line, bands::canonical_band(text_in(line, 0, a))),
         b"mode" => {
-            let submode = if text::byte(line, next) == b'|' {
+            let (s, t) = notation::texts_in(line, a, b);
+            let submode = if text::byte(line, notation::after_text(line, 0)) == b'|' {
                 Some(t)
             } else {
                 None
             };
             put_modes(out, s, submode)
         }
-        b"class" => put_class(out, classes::mode_class(s)),
-        b"class_named" => put_class(out, classes::parse_class(s)),
+        b"class" => put_class(out, classes::mode_class(text_in(line, 0, a))),
+        b"class_named" => put_class(out, classes::parse_class(text_in(line, 0, a))),
         _ => None,
     }
 }

@@ -4,7 +4,9 @@
 ghost use Rattle.std.specs.Prelude.{◌≤◌, length, IfSome};
 
 use decimal::Signed;
-use notation::{put_byte, put_none, put_number, put_number_or_none, put_numbers};
+use notation::{
+    put_byte, put_none, put_number, put_number_or_none, put_numbers, text_in, texts_in,
+};
 use std::cmp::Ordering;
 
 // The first byte kept and the first one after.
@@ -62,21 +64,28 @@ fn order(s: &[u8], t: &[u8]) -> u64 {
 pub fn answer(op: &[u8], line: &[u8], a: &mut [u8], b: &mut [u8], out: &mut [u8]) -> Option<usize>
     ensures { IfSome result (λ n. n ≤ length out.new) }
 {
-    let s = notation::text_in(line, 0, a);
-    let t = notation::text_in(line, notation::after_text(line, 0), b);
     match op {
-        b"utf8" => put_number(out, 0, text::utf8::valid_up_to(s) as u64),
-        b"trim" => put_trimmed(out, s),
-        b"find" => put_number(out, 0, place(line, s) as u64),
-        b"unsigned" => put_number_or_none(out, decimal::parse_unsigned(s)),
-        b"signed" => put_signed(out, decimal::parse_signed(s)),
+        b"utf8" => put_number(out, 0, text::utf8::valid_up_to(text_in(line, 0, a)) as u64),
+        b"trim" => put_trimmed(out, text_in(line, 0, a)),
+        b"find" => put_number(out, 0, place(line, text_in(line, 0, a)) as u64),
+        b"unsigned" => put_number_or_none(out, decimal::parse_unsigned(text_in(line, 0, a))),
+        b"signed" => put_signed(out, decimal::parse_signed(text_in(line, 0, a))),
         b"digits" => put_digits(
             out,
             notation::number_at(line, notation::after(line, 0, b' ')),
         ),
-        b"same" => put_number(out, 0, letters::same(s, t) as u64),
-        b"same_raised" => put_number(out, 0, letters::same_raised(s, t) as u64),
-        b"order" => put_number(out, 0, order(s, t)),
+        b"same" => {
+            let (s, t) = texts_in(line, a, b);
+            put_number(out, 0, letters::same(s, t) as u64)
+        }
+        b"same_raised" => {
+            let (s, t) = texts_in(line, a, b);
+            put_number(out, 0, letters::same_raised(s, t) as u64)
+        }
+        b"order" => {
+            let (s, t) = texts_in(line, a, b);
+            put_number(out, 0, order(s, t))
+        }
         _ => None,
     }
 }

@@ -99,6 +99,9 @@ fn answer_in(
 pub fn answer(op: &[u8], line: &[u8], a: &mut [u8], out: &mut [u8]) -> Option<usize>
     ensures { IfSome result (λ n. n ≤ length out.new) }
 {
+    if !matches!(op, b"write" | b"journal" | b"export" | b"station") {
+        return None;
+    }
     let text = notation::text_in(line, 0, a);
     let at = notation::after_text(line, 0);
     let count = notation::number_at(line, at);

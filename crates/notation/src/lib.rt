@@ -41,6 +41,15 @@ pub fn text_in<'a>(s: &[u8], from: usize, out: &'a mut [u8]) -> &'a [u8]
     &out[..n]
 }
 
+// The text in bars of the line and the one behind it.
+pub fn texts_in<'a>(line: &[u8], a: &'a mut [u8], b: &'a mut [u8]) -> (&'a [u8], &'a [u8])
+    ensures { (length result.0.now ≤ length a.old) × (length result.1.now ≤ length b.old) }
+{
+    let first = text_in(line, 0, a);
+    let second = text_in(line, after_text(line, 0), b);
+    (first, second)
+}
+
 // The place after the text in bars from `from` on, and the blank behind it.
 pub fn after_text(s: &[u8], from: usize) -> usize
     ensures { result ≤ length s.now }
@@ -143,7 +152,10 @@ pub fn put_bytes(out: &mut [u8], at: usize, s: &[u8]) -> Option<usize>
 pub fn put_byte(out: &mut [u8], at: usize, b: u8) -> Option<usize>
     ensures { IfSome result (λ n. n ≤ length out.new) }
 {
-    put_bytes(out, at, &[b])
+    if out.len() <= at {
+        return None;
+    }
+    Some(output::put_byte(out, at, b))
 }
 
 // The answer `none`, where there is room.
